@@ -1,0 +1,10 @@
+pub mod Numbers
+pub mod Carrying
+pub mod Arrivals
+pub mod Soundness
+pub mod Changes
+pub mod Losses
+pub mod Lossy
+pub mod Grouping
+pub mod Windows
+pub mod Standing
