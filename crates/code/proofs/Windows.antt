@@ -9,9 +9,10 @@ use lib.Dec.{leb}
 use lib.ListN.{length, length-append}
 use Rattle.std.specs.Options.{isSome}
 use Rattle.std.specs.Iters.{counting}
-use Rattle.std.proofs.shelf.Counted.{length-map-counting, getD-map-counting, fill-by-all}
+use Rattle.std.proofs.shelf.Counted.{length-map-counting}
 use Rattle.std.proofs.shelf.Tests.{cases-bool, cond-true, cond-false, leb-true}
 use Rattle.kinds.specs.Kind.{Kind}
+use Rattle.kinds.proofs.Lists.{map-same}
 use Rattle.code.specs.declared.mark.Mark.the-variants.{Arrived, Mended, Lost}
 use Rattle.code.specs.declared.sheet.Sheet.{Sheet}
 use Rattle.code.specs.Sheets.{T, n, lag, column}
@@ -19,9 +20,6 @@ use Rattle.code.specs.Packets.{brought, parity, packet, in-column}
 use Rattle.code.specs.Mending.{History, heard, got, symbol, known, all-known, beside, mends, mended, mark, given}
 use Rattle.code.proofs.Numbers.{lag-below, lag-some}
 use Rattle.code.proofs.Carrying.{gathered-same}
-
-pub map-same : {X : Type 0} (f g : ℕ → X) (n : ℕ) (d : X) → ((i : ℕ) → i < n → f i ≡ g i) → map f (counting 0 n) ≡ map g (counting 0 n)
-map-same f g n d h = fill-by-all g (map f (counting 0 n)) n d (length-map-counting f 0 n) (λ i l. getD-map-counting f 0 n i i d l (omega arith) ∙ h i l)
 
 pub whole : {S : Type 0} (K : Kind S) (p : Sheet) (u : ℕ → ℕ → S) (t : ℕ) → length (packet K p u t) ≡ n p
 whole K p u t =

@@ -1,0 +1,11 @@
+use mathlib.Core.Path.{_≡_}
+use Prim.Native.Nat.{_-_}
+use lib.ListN.{getD}
+use Rattle.line.specs.Ring.{held, symbol-back}
+use Rattle.line.proofs.Filling.{filled}
+use Rattle.line.proofs.ring.add_each.Given as given
+
+abbrev pub Inv-loop-i : given.InvT-loop-i
+Inv-loop-i g l =
+    let K = g .S·Symbol .kind in
+    l .place ≡ filled (λ i. K .sum (symbol-back (K .zero) (held (l .head) (l .ring)) (l .steps - i)) (getD (l .entry .place) i (K .zero))) (l .entry .place) (l .i)

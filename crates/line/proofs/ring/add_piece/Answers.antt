@@ -1,0 +1,24 @@
+use mathlib.Core.Path.{_≡_, ap, ap₂, _∙_}
+use Prim.Native.Nat.{_<_}
+use native.Mathlib.Omega.{arith}
+use lib.ListN.{length, getD}
+use Rattle.std.proofs.shelf.Lists.{getD-read}
+use Rattle.line.proofs.Filling.{filled-at, filled-more, filled-all}
+use Rattle.line.proofs.ring.add_piece.Needs as need
+
+pub loop-i-again : need.loop-i-again
+loop-i-again g c =
+    let K = g .S·Symbol .kind in
+    let i = c .loop-i .i in
+    let place = c .loop-i .place in
+    let old = c .args .place .now in
+    let symbols = c .args .symbols .now in
+    let within : i < length place = omega arith in
+    let also : i < length symbols = omega arith in
+    let was : c .index-place-i .result ≡ getD old i (K .zero) =
+    getD-read place i (c .index-place-i .result) within (c .index-place-i .is) (K .zero) ∙ ap (λ ys. getD ys i (K .zero)) (c .loop-i .inv) ∙ filled-at _ old i (K .zero) in
+    let is : c .index-symbols-i .result ≡ getD symbols i (K .zero) = getD-read symbols i (c .index-symbols-i .result) also (c .index-symbols-i .is) (K .zero) in
+    filled-more _ old i (c .sum .result) place (omega arith) (c .loop-i .inv) (c .sum .ensures ∙ ap₂ (K .sum) is was)
+
+pub returns : need.returns
+returns g c = filled-all _ (c .args .place .now) (c .loop-i .i) (c .loop-i .place) (omega arith) (c .loop-i .inv)

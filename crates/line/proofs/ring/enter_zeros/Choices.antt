@@ -1,0 +1,13 @@
+use Prim.Native.Nat.{_-_, _≤_}
+use mathlib.Core.Path.{_≡_}
+use lib.ListN.{replicate, take}
+use Rattle.line.specs.Ring.{held, entered}
+use Rattle.line.proofs.ring.enter_zeros.Given as given
+
+abbrev pub Inv-loop-done : given.InvT-loop-done
+Inv-loop-done g l =
+    (l .done ≤ l .count)
+    × (held (l .head) (l .ring) ≡ entered (take (l .done) (replicate (l .count) (g .S·Symbol .kind .zero))) (held (l .entry .head) (l .entry .ring)))
+
+abbrev pub μ-loop-done : given.MeasureT-loop-done
+μ-loop-done g l = l .count - l .done

@@ -1,0 +1,5 @@
+// The symbol line: a delay line over a window that the caller lends.
+mod line;
+mod ring;
+
+pub use line::SymbolLine;
