@@ -8,3 +8,7 @@ pub mod Lossy
 pub mod Grouping
 pub mod Windows
 pub mod Standing
+pub mod Cases
+pub mod Blocks
+pub mod Sums
+pub mod Construction

@@ -6,3 +6,5 @@ pub mod Marks
 pub mod Mending
 pub mod Bursts
 pub mod Theory
+pub mod Worked
+pub mod Published

@@ -212,3 +212,27 @@ fitting-within places window = cond-both (leb places window) places 0 (λ n. n �
 pub start-below : (len h s : ℕ) → 0 < len → Start len h s → s < len
 start-below len h s some (inl p) = omega (arith, p .0, p .1)
 start-below len h s some (inr p) = omega (arith, p .0, p .1)
+
+module _ {S : Type 0} where
+  -- the symbols that went in last, and those before them
+  pub look-latest : (q xs : List S) (a : ℕ) (d : S) → 0 < a → a ≤ length q → a ≤ length xs → look (entered q xs) a ≡ Some (getD q (length q - a) d)
+  look-latest q xs a d some new room =
+      let long = entered-length q xs in
+      look-at (entered q xs) a d some (omega arith)
+      ∙ ap Some (getD-take (length xs) (reverse q ++ xs) (a - 1) d (omega arith)
+      ∙ getD-append-left (reverse q) xs d (a - 1) (omega (arith, length-reverse q))
+      ∙ getD-reverse q (a - 1) d (omega arith) ∙ ap (λ i. getD q i d) (let e : length q - 1 - (a - 1) ≡ length q - a = omega arith in e))
+
+  pub look-earlier : (q xs : List S) (a : ℕ) → length q < a → a ≤ length xs → look (entered q xs) a ≡ look xs (a - length q)
+  look-earlier q xs a old room =
+      let long = entered-length q xs in
+      let d : S = first xs (omega arith) in
+      look-at (entered q xs) a d (omega arith) (omega arith)
+      ∙ ap Some (getD-take (length xs) (reverse q ++ xs) (a - 1) d (omega arith)
+      ∙ getD-append-right (reverse q) xs (length q) (a - 1) d (length-reverse q) (omega arith)
+      ∙ ap (λ i. getD xs i d) (let e : (a - 1) - length q ≡ (a - length q) - 1 = omega arith in e))
+      ∙ sym (look-at xs (a - length q) d (omega arith) (omega arith))
+    where
+      first : (xs : List S) → 0 < length xs → S
+      first [] h = absurd (omega arith)
+      first (x ∷ xs) h = x

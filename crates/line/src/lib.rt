@@ -3,3 +3,4 @@ mod line;
 mod ring;
 
 pub use line::SymbolLine;
+pub use ring::clear;

@@ -9,7 +9,7 @@ ghost use Rattle.line.specs.Ring.{held, entered, look, stretch, added, symbol-
 use kinds::Symbol;
 
 // Writes zero into every place.
-pub(crate) fn clear<S: Symbol>(ring: &mut [S])
+pub fn clear<S: Symbol>(ring: &mut [S])
     ensures { λ _. ⌜ now (ring .exit) ≡ replicate (length (now (ring .entry))) (kind .zero) ⌝ }
 {
     for place in ring.iter_mut() {

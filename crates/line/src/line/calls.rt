@@ -102,11 +102,11 @@ impl<'w, S: Symbol> SymbolLine<'w, S> {
         }
     }
 
-    // The length of the window that was lent.
-    pub fn window_len(&self) -> usize
-        ensures { λ r. ⌜ r ≡ length (now (now (self .entry) .window)) ⌝ }
+    // How many symbols the line holds.
+    pub fn len(&self) -> usize
+        ensures { λ r. ⌜ r ≡ length (contents (now (self .entry))) ⌝ }
     {
-        self.window.len()
+        self.places.min(self.window.len())
     }
 
     // One symbol goes in.
