@@ -1,5 +1,6 @@
 pub mod Numbers
 pub mod Carrying
+pub mod Pieces
 pub mod Arrivals
 pub mod Soundness
 pub mod Changes

@@ -1,6 +1,6 @@
 // The parity symbols of a slot, a block at a time: the symbols of a block lie in one piece of the line.
 ghost use mathlib.Core.Path.{_≡_};
-ghost use Prim.Native.Nat.{_+_, _*_, _/_, _%_, _<_, min};
+ghost use Prim.Native.Nat.{_+_, _-_, _*_, _/_, _%_, _<_, min};
 ghost use lib.ListN.{length};
 ghost use Rattle.transmit.specs.Keeping.{kept, sums};
 use code::Sheet;
@@ -10,13 +10,20 @@ use line::clear;
 
 // The column of a row's first symbol: a row that is shorter than the parity stands at its right edge.
 fn first_column(sheet: Sheet) -> u32
-    ensures { λ r. ⌜ r + min (sheet .row) (sheet .parity) ≡ sheet .parity ⌝ }
+    ensures { λ r. ⌜ r ≡ sheet .parity - sheet .row ⌝ }
 {
     sheet.parity.saturating_sub(sheet.row)
 }
 
 // Adds the block that begins with symbol `first`, which slot `slots` carries `lag` slots after its row.
-fn add_block<S: Symbol>(line: &SymbolLine<'_, S>, sheet: Sheet, slots: u32, first: u32, lag: u32, place: &mut [S])
+fn add_block<S: Symbol>(
+    line: &SymbolLine<'_, S>,
+    sheet: Sheet,
+    slots: u32,
+    first: u32,
+    lag: u32,
+    place: &mut [S],
+)
     requires within { ⌜ first < sheet .row ⌝ }
     requires whole { ⌜ first % sheet .parity ≡ 0 ⌝ }
     requires lag { ⌜ lag ≡ (1 + first / sheet .parity) * sheet .burst ⌝ }
@@ -33,7 +40,12 @@ fn add_block<S: Symbol>(line: &SymbolLine<'_, S>, sheet: Sheet, slots: u32, firs
 }
 
 // Writes the parity symbols of slot `slots`.
-pub(crate) fn write_parities<S: Symbol>(line: &SymbolLine<'_, S>, sheet: Sheet, slots: u32, place: &mut [S])
+pub(crate) fn write_parities<S: Symbol>(
+    line: &SymbolLine<'_, S>,
+    sheet: Sheet,
+    slots: u32,
+    place: &mut [S],
+)
     requires { ⌜ length (now place) ≡ sheet .parity ⌝ }
     ensures { λ _. ⌜ now (place .exit) ≡ sums kind sheet (kept kind sheet slots (now (line .entry))) slots (sheet .row) ⌝ }
 {

@@ -28,7 +28,13 @@ fn needed(sheet: Sheet) -> usize
 }
 
 // The first refusal that holds of putting a row.
-fn put_refusal(sheet: Sheet, window: usize, slots: u32, row: usize, place: usize) -> Option<PutRefusal>
+fn put_refusal(
+    sheet: Sheet,
+    window: usize,
+    slots: u32,
+    row: usize,
+    place: usize,
+) -> Option<PutRefusal>
     ensures { λ r. ⌜ r ≡ put-refused sheet window slots row place ⌝ }
 {
     if window < needed(sheet) {
@@ -45,7 +51,13 @@ fn put_refusal(sheet: Sheet, window: usize, slots: u32, row: usize, place: usize
 }
 
 // The first refusal that holds of drawing a tail packet.
-fn tail_refusal(sheet: Sheet, window: usize, slots: u32, tails: u32, place: usize) -> Option<TailRefusal>
+fn tail_refusal(
+    sheet: Sheet,
+    window: usize,
+    slots: u32,
+    tails: u32,
+    place: usize,
+) -> Option<TailRefusal>
     ensures { λ r. ⌜ r ≡ tail-refused sheet window slots tails place ⌝ }
 {
     if window < needed(sheet) {
@@ -113,7 +125,13 @@ impl<'w, S: Symbol> WindingSender<'w, S> {
     {
         let sheet = self.sheet;
         let slots = self.count.rows + self.count.tails;
-        if let Some(refusal) = tail_refusal(sheet, self.line.len(), slots, self.count.tails, place.len()) {
+        if let Some(refusal) = tail_refusal(
+            sheet,
+            self.line.len(),
+            slots,
+            self.count.tails,
+            place.len(),
+        ) {
             return Err(refusal);
         }
         let symbols = sheet.row as usize;
