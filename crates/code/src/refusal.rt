@@ -4,7 +4,7 @@ ghost use Rattle.code.specs.Refusals.{put-number, tail-number, slot-number};
 
 // Putting a row: the window is too short; the run has used all its slots; the row, or the place for the packet, has the
 // wrong length.
-#[derive(Clone, Copy, PartialEq, Eq, Debug)]
+#[derive(Clone, Copy)]
 pub enum PutRefusal {
     Window,
     Slots,
@@ -13,7 +13,7 @@ pub enum PutRefusal {
 }
 
 // Drawing a tail packet: as above, and all tail packets have been given.
-#[derive(Clone, Copy, PartialEq, Eq, Debug)]
+#[derive(Clone, Copy)]
 pub enum TailRefusal {
     Window,
     Slots,
@@ -22,7 +22,7 @@ pub enum TailRefusal {
 }
 
 // Taking a slot: as above; the packet, or the place for the row or for its marks, has the wrong length.
-#[derive(Clone, Copy, PartialEq, Eq, Debug)]
+#[derive(Clone, Copy)]
 pub enum SlotRefusal {
     Window,
     Slots,

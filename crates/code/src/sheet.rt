@@ -22,7 +22,7 @@ pub struct Sheet {
 }
 
 // Why no sheet has these numbers.
-#[derive(Clone, Copy, PartialEq, Eq, Debug)]
+#[derive(Clone, Copy)]
 pub enum SheetRefusal {
     Burst,
     Row,

@@ -5,7 +5,7 @@ use crate::layout::Layout;
 use crate::printed::Printed;
 use crate::symbol::Symbol;
 
-#[derive(Clone, Copy, PartialEq, Eq, Debug)]
+#[derive(Clone, Copy)]
 pub enum Digit {
     D0,
     D1,
@@ -43,7 +43,7 @@ pub impl Symbol for Digit as DigitSymbol {
     ghost kind = { digits };
 
     fn zero() -> Digit {
-        Digit::D0
+        Digit::of_rest(0)
     }
 
     fn sum(self, other: Digit) -> Digit {
@@ -55,7 +55,7 @@ pub impl Symbol for Digit as DigitSymbol {
     }
 
     fn nonzero() -> Digit {
-        Digit::D1
+        Digit::of_rest(1)
     }
 }
 

@@ -26,10 +26,9 @@ pub impl Symbol for Byte as ByteSymbol {
         }
     }
 
+    // Exclusive or undoes itself.
     fn difference(self, other: Byte) -> Byte {
-        Byte {
-            value: self.value ^ other.value,
-        }
+        self.sum(other)
     }
 
     fn nonzero() -> Byte {
