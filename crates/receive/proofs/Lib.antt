@@ -1,0 +1,12 @@
+pub mod Counts
+pub mod Reasons
+pub mod Agreement
+pub mod Telling
+pub mod Lawfulness
+pub mod Memories
+pub mod Slots
+pub mod Beside
+pub mod Reading
+pub mod Stepping
+pub mod Settling
+pub mod Driving
