@@ -8,14 +8,14 @@ ghost use Rattle.receive.specs.Handing.{verdict, judged, is-mended, is-lost};
 use code::Mark;
 
 // The verdict on a row: all of it arrived; or so many symbols were mended; or some are lost, the first of them at a place.
-#[derive(Clone, Copy, PartialEq, Eq, Debug)]
+#[derive(Clone, Copy)]
 pub enum Verdict {
     Whole,
     Mended(u8),
     Lost { mended: u8, lost: u8, first: u8 },
 }
 
-#[derive(Clone, Copy, PartialEq, Eq, Debug)]
+#[derive(Clone, Copy)]
 pub struct Due {
     pub row: u32,
     pub verdict: Verdict,

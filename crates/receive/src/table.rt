@@ -5,7 +5,7 @@ ghost use lib.ListN.{length, getD, set, replicate};
 ghost use Rattle.receive.specs.Memory.{came-in};
 
 // What became of a slot.
-#[derive(Clone, Copy, PartialEq, Eq, Debug)]
+#[derive(Clone, Copy)]
 pub enum SlotState {
     Arrived,
     Missed,
