@@ -2,6 +2,8 @@
 #[cfg(test)]
 mod lines;
 #[cfg(test)]
+mod receiving;
+#[cfg(test)]
 mod sending;
 #[cfg(test)]
 mod sheets;

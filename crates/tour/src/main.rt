@@ -49,13 +49,22 @@ fn show_verdict(rt: &impl Print, verdict: Verdict) -> Result<(), AnyError> {
     match verdict {
         Verdict::Whole => println!(rt, "whole")?,
         Verdict::Mended(count) => println!(rt, "mended: {count}")?,
-        Verdict::Lost { mended, lost, first } => println!(rt, "lost: {lost}, mended: {mended}, first lost: {first}")?,
+        Verdict::Lost {
+            mended,
+            lost,
+            first,
+        } => println!(rt, "lost: {lost}, mended: {mended}, first lost: {first}")?,
     }
     Ok(())
 }
 
 // The row that falls due with a slot: its symbols with their marks, and its verdict.
-fn show_due(rt: &impl Print, due: Due, row: &[Digit; 4], marks: &[Mark; 4]) -> Result<(), AnyError> {
+fn show_due(
+    rt: &impl Print,
+    due: Due,
+    row: &[Digit; 4],
+    marks: &[Mark; 4],
+) -> Result<(), AnyError> {
     print!(rt, "row {} ", due.row)?;
     for (symbol, mark) in row.iter().zip(marks) {
         match mark {
@@ -143,20 +152,26 @@ fn hall(rt: &impl Print, sheet: Sheet, missed: &[u32]) -> Result<(), AnyError> {
     let sent = winding.end();
     heard?;
     let tally = receiver.tally();
-    println!(rt, "sent {} rows and {} tail packets", sent.rows, sent.tails)?;
+    println!(
+        rt,
+        "sent {} rows and {} tail packets",
+        sent.rows, sent.tails
+    )?;
     println!(
         rt,
         "slots {}: rows whole {}, mended {}, lost {}",
-        tally.slots,
-        tally.whole,
-        tally.mended,
-        tally.lost
+        tally.slots, tally.whole, tally.mended, tally.lost
     )?;
     Ok(())
 }
 
 // What the two ends answer over windows of these lengths.
-fn windows(rt: &impl Print, sheet: Sheet, near: &mut [Digit], far: &mut [Digit]) -> Result<(), AnyError> {
+fn windows(
+    rt: &impl Print,
+    sheet: Sheet,
+    near: &mut [Digit],
+    far: &mut [Digit],
+) -> Result<(), AnyError> {
     let mut packet = [Digit::D0; 6];
     let mut row = [Digit::D0; 4];
     let mut marks = [Mark::Arrived; 4];
@@ -164,11 +179,19 @@ fn windows(rt: &impl Print, sheet: Sheet, near: &mut [Digit], far: &mut [Digit])
     let hears = far.len();
     match Sender::new(sheet, near).put(&row, &mut packet) {
         Ok(()) => println!(rt, "a sender over {sends} symbols sends")?,
-        Err(refusal) => println!(rt, "a sender over {sends} symbols answers {}", refusal.number())?,
+        Err(refusal) => println!(
+            rt,
+            "a sender over {sends} symbols answers {}",
+            refusal.number()
+        )?,
     }
     match Receiver::new(sheet, far).missed(&mut row, &mut marks) {
         Ok(_) => println!(rt, "a receiver over {hears} symbols hears")?,
-        Err(refusal) => println!(rt, "a receiver over {hears} symbols answers {}", refusal.number())?,
+        Err(refusal) => println!(
+            rt,
+            "a receiver over {hears} symbols answers {}",
+            refusal.number()
+        )?,
     }
     Ok(())
 }
@@ -177,12 +200,12 @@ fn tour(rt: &impl Print, sheet: Sheet) -> Result<(), AnyError> {
     println!(
         rt,
         "sheet: bursts of {} slots, {} symbols a row, {} parity symbols, delay {} slots",
-        sheet.burst,
-        sheet.row,
-        sheet.parity,
-        sheet.delay
+        sheet.burst, sheet.row, sheet.parity, sheet.delay
     )?;
-    println!(rt, "\nslots 0, 1 and 2 are missed (+ marks a mended symbol):")?;
+    println!(
+        rt,
+        "\nslots 0, 1 and 2 are missed (+ marks a mended symbol):"
+    )?;
     hall(rt, sheet, &[0, 1, 2])?;
     println!(rt, "\nslots 0 and 3 are missed (? marks a lost symbol):")?;
     hall(rt, sheet, &[0, 3])?;
