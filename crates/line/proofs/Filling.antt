@@ -5,7 +5,7 @@ use Prim.Native.Nat.{ℕ, _+_, _-_, _<_, _≤_}
 use native.Mathlib.Omega.{arith}
 use lib.ListN.{length, drop, set, getD}
 use Rattle.std.specs.Iters.{counting}
-use Rattle.std.proofs.shelf.Lists.{append-nil, append-assoc, set-at, getD-append-right, getD-drop, drop-all, drop-more}
+use Rattle.std.proofs.shelf.Lists.{getD-read, append-nil, append-assoc, set-at, getD-append-right, getD-drop, drop-all, drop-more}
 use Rattle.std.proofs.shelf.Counted.{length-map-counting, map-counting-more}
 
 module _ {S : Type 0} (f : ℕ → S) (p : List S) where
@@ -13,10 +13,14 @@ module _ {S : Type 0} (f : ℕ → S) (p : List S) where
   abbrev pub filled : ℕ → List S
   filled i = map f (counting 0 i) ++ drop i p
 
-  pub filled-at : (i : ℕ) (d : S) → getD (filled i) i d ≡ getD p i d
+  filled-at : (i : ℕ) (d : S) → getD (filled i) i d ≡ getD p i d
   filled-at i d =
       getD-append-right (map f (counting 0 i)) (drop i p) i i d (length-map-counting f 0 i) (omega arith)
       ∙ getD-drop i p (i - i) d ∙ ap (λ k. getD p k d) (let e : i + (i - i) ≡ i = omega arith in e)
+
+  -- an element that is read before its place is written
+  pub filled-read : (i : ℕ) (x d : S) (ys : List S) → i < length ys → ys ≡ filled i → x ≡ getD ys i x → x ≡ getD p i d
+  filled-read i x d ys l e is = getD-read ys i x l is d ∙ ap (λ zs. getD zs i d) e ∙ filled-at i d
 
   pub filled-more : (i : ℕ) (x : S) (ys : List S) → i < length p → ys ≡ filled i → x ≡ f i → set ys i x ≡ filled (i + 1)
   filled-more i x ys l e h =

@@ -194,6 +194,11 @@ module _ {S : Type 0} where
         | inr l ↦ ap (λ zs. take places (ys ++ zs)) (drop-all (e - 0) w (omega arith)) ∙ ap (take places) (append-nil ys) ∙ take-all places ys (omega arith)
       ]
 
+  -- what is done to the front is done to what the line holds
+  pub front-held : (F : List S → List S) (w after : List S) (places e r h : ℕ) → e ≡ min places (length w) → length after ≡ length (take (e - 0) w) → held r after ≡ F (held h (take (e - 0) w)) → held r (take places (after ++ drop (e - 0) w)) ≡ F (held h (take places w))
+  front-held F w after places e r h is long made =
+      ap (held r) (put-front w after places e is long) ∙ made ∙ ap (λ xs. F (held h xs)) (cut-front w places e is)
+
   reverse-replicate : (m : ℕ) (z : S) → reverse (replicate m z) ≡ replicate m z
   reverse-replicate m z =
       let long = length-replicate m z in

@@ -3,7 +3,7 @@ use Prim.Native.Nat.{_<_}
 use native.Mathlib.Omega.{arith}
 use lib.ListN.{length, getD}
 use Rattle.std.proofs.shelf.Lists.{getD-read}
-use Rattle.line.proofs.Filling.{filled-at, filled-more, filled-all}
+use Rattle.line.proofs.Filling.{filled-read, filled-more, filled-all}
 use Rattle.line.proofs.ring.add_piece.Needs as need
 
 pub loop-i-again : need.loop-i-again
@@ -16,7 +16,7 @@ loop-i-again g c =
     let within : i < length place = omega arith in
     let also : i < length symbols = omega arith in
     let was : c .index-place-i .result ≡ getD old i (K .zero) =
-    getD-read place i (c .index-place-i .result) within (c .index-place-i .is) (K .zero) ∙ ap (λ ys. getD ys i (K .zero)) (c .loop-i .inv) ∙ filled-at _ old i (K .zero) in
+    filled-read _ old i (c .index-place-i .result) (K .zero) place within (c .loop-i .inv) (c .index-place-i .is) in
     let is : c .index-symbols-i .result ≡ getD symbols i (K .zero) = getD-read symbols i (c .index-symbols-i .result) also (c .index-symbols-i .is) (K .zero) in
     filled-more _ old i (c .sum .result) place (omega arith) (c .loop-i .inv) (c .sum .ensures ∙ ap₂ (K .sum) is was)
 

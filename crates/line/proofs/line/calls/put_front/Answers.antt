@@ -1,20 +1,19 @@
 use borrow.Author.Needs.{needs}
-use mathlib.Core.Path.{_≡_, ap, _∙_}
+use mathlib.Core.Path.{_≡_}
 use mathlib.Core.List.{[], _∷_}
 use Prim.Native.Nat.{_-_}
 use lib.ListN.{length, take}
 use Rattle.std.proofs.shelf.Parts.{overwrites}
-use Rattle.line.specs.Ring.{held, entered}
-use Rattle.line.proofs.Rings.{put-front, cut-front}
+use Rattle.line.specs.Ring.{entered}
+use Rattle.line.proofs.Rings.{front-held}
 use Rattle.line.proofs.line.calls.put_front.Needs as need
 
 pub returns : need.returns
 returns g c =
     let w = c .args .window .now in
     let e = c .min-end .result in
-    let after = c .put .last .ring in
     let long : length (c .put .last .ring) ≡ length (take (e - 0) w) = search needs in
     record {
-      front = ap (held (c .put .result)) (put-front w after (c .args .places) e (c .min-end .ensures) long) ∙ c .put .ensures ∙ ap (λ xs. entered (c .args .symbol ∷ []) (held (c .args .head) xs)) (cut-front w (c .args .places) e (c .min-end .ensures));
+      front = front-held (entered (c .args .symbol ∷ [])) w (c .put .last .ring) (c .args .places) e (c .put .result) (c .args .head) (c .min-end .ensures) long (c .put .ensures);
       past = search (needs, overwrites);
     }
