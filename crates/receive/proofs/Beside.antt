@@ -1,17 +1,17 @@
 -- What a slot carries beside a block, taken block by block. Assumes nothing.
-use Prim.Native.Nat.{ℕ, zero, suc, _+_, _-_, _*_, _/_, _%_, _≤_, _<_, min}
+use Prim.Native.Nat.{ℕ, zero, suc, _+_, _-_, _*_, _/_, _≤_, _<_, min, max}
 use mathlib.Core.Path.{_≡_, refl, sym, _∙_, ap, ap₂}
 use mathlib.Core.Logic.{_≢_, inl, inr}
 use mathlib.Core.Bool.{Bool, true, false, cond, not, _&&_, _||_}
 use mathlib.Core.List.{List, _++_, map}
 use native.Mathlib.Omega.{arith}
 use native.Mathlib.Nat.{div-add-mod', div-eq-of-lt-le}
-use lib.Dec.{eqb, leb}
+use lib.Dec.{eqb}
 use lib.ListN.{length, take, drop, getD, replicate}
 use Rattle.std.specs.Iters.{counting}
 use Rattle.std.proofs.shelf.Lists.{length-append, length-drop, length-take-le, length-replicate, getD-append-left, getD-append-right, getD-drop, getD-take, getD-replicate}
 use Rattle.std.proofs.shelf.Counted.{length-map-counting, getD-map-counting, fill-by-all}
-use Rattle.std.proofs.shelf.Tests.{cases-eq, cases-lt, eq-eqb, ne-eqb, and-left, and-right, and-from, le-leb, lt-leb, cond-true, cond-false}
+use Rattle.std.proofs.shelf.Tests.{cases-eq, cases-lt, eq-eqb, ne-eqb, and-left, and-right, le-leb, lt-leb, cond-true, cond-false}
 use Rattle.kinds.specs.Kind.{Kind}
 use Rattle.kinds.proofs.Algebra.{zero-sum}
 use Rattle.kinds.proofs.Lists.{map-same}
@@ -181,7 +181,7 @@ module _ {S : Type 0} (K : Kind S) (p : Sheet) (h : History S) (s first other : 
       heard-known came = kept-known apart (λ i l. knows i l ∙ came)
 
       -- the two blocks have so many columns in common
-      module _ (end : ℕ) (common : end ≡ min (p .parity) (p .row - Prim.Native.Nat.max first other)) where
+      module _ (end : ℕ) (common : end ≡ min (p .parity) (p .row - max first other)) where
         end-first : end ≤ size p first
         end-first = omega arith
 

@@ -2,22 +2,21 @@
 use Prim.Native.Nat.{ℕ, _+_, _-_, _*_, _≤_, _<_}
 use mathlib.Core.Path.{_≡_, refl, sym, _∙_, ap, ap₂, subst}
 use mathlib.Core.Bool.{Bool, true, false, cond, not, _||_}
-use mathlib.Core.Logic.{inl, inr}
 use mathlib.Core.List.{List, [], _∷_, _++_, map}
 use native.Mathlib.Omega.{arith}
 use native.Mathlib.Nat.{mul-le-mul-right, one-mul, add-mul}
-use lib.Dec.{ltb, leb, eqb}
+use lib.Dec.{ltb, eqb}
 use lib.ListN.{length, take, drop, getD}
 use borrow.Rule.Slice.PartMut.{putMid}
 use Rattle.std.specs.Iters.{counting}
 use Rattle.std.specs.Options.{isSome}
 use Rattle.std.specs.declared.option.Option.{Option}
-use Rattle.std.specs.declared.option.Option.the-variants.{Some, None}
+use Rattle.std.specs.declared.option.Option.the-variants.{None}
 use Rattle.std.specs.declared.result.Result.the-variants.{Ok, Err}
 use Rattle.std.proofs.shelf.Lists.{length-append, length-drop, length-take-le, drop-take, drop-drop, getD-append-left, getD-push}
 use Rattle.std.proofs.shelf.Parts.{take-putMid-below, drop-putMid, between-putMid}
 use Rattle.std.proofs.shelf.Counted.{map-counting-more}
-use Rattle.std.proofs.shelf.Tests.{cases-bool, cond-false, le-ltb, lt-leb, ltb-false, eq-eqb, eqb-true, not-false, or-from, or-parts}
+use Rattle.std.proofs.shelf.Tests.{cond-false, le-ltb, lt-leb, ltb-false, eq-eqb, eqb-true, not-false, or-from, or-parts}
 use Rattle.kinds.specs.Kind.{Kind}
 use Rattle.kinds.proofs.Lists.{map-same}
 use Rattle.code.specs.declared.mark.Mark.{Mark}
@@ -34,7 +33,7 @@ use Rattle.receive.specs.Refusing.{unfit, slot-refused, slots-refused}
 use Rattle.receive.specs.Handing.{Reply, replied, count}
 use Rattle.receive.specs.Calls.{tally-of, room, Taken, SlotWith, SlotCall}
 use Rattle.receive.specs.Runs.{Event, slot, tally, Run, stop, slot-call, tally-call}
-use Rattle.receive.specs.Driving.{part, arrival, Slots, slots-of, call, calls, Driven}
+use Rattle.receive.specs.Driving.{part, arrival, Slots, slots-of, call, calls}
 use Rattle.receive.proofs.Agreement.{hands-ok, room-stays}
 use Rattle.receive.proofs.Slots.{past}
 

@@ -1,21 +1,21 @@
 -- The law over runs. Assumes nothing.
 use Prim.Native.Nat.{ℕ, _+_, _<_}
-use mathlib.Core.Path.{_≡_, refl, sym, _∙_, ap, subst}
+use mathlib.Core.Path.{_≡_, sym, _∙_, ap, subst}
 use mathlib.Core.Logic.{_≢_, inl, inr}
 use mathlib.Core.List.{List, [], _∷_, _++_}
 use native.Mathlib.Omega.{arith}
 use lib.ListN.{length, drop, getD}
 use Rattle.std.proofs.shelf.Tests.{cases-lt, cases-bool}
 use Rattle.std.specs.declared.option.Option.{Option}
-use Rattle.std.specs.declared.option.Option.the-variants.{Some, None}
-use Rattle.std.specs.declared.result.Result.the-variants.{Ok, Err}
+use Rattle.std.specs.declared.option.Option.the-variants.{Some}
+use Rattle.std.specs.declared.result.Result.the-variants.{Ok}
 use Rattle.kinds.specs.Kind.{Kind}
 use Rattle.code.specs.declared.mark.Mark.the-variants.{Arrived, Lost}
 use Rattle.code.specs.declared.sheet.Sheet.{Sheet}
 use Rattle.code.specs.Sheets.{T}
 use Rattle.code.specs.Packets.{Rows}
 use Rattle.code.specs.Mending.{heard, mark}
-use Rattle.code.specs.Bursts.{Missed, Bursts}
+use Rattle.code.specs.Bursts.{Bursts}
 use Rattle.code.specs.Theory.{Holds}
 use Rattle.code.proofs.Soundness.{given-sound}
 use Rattle.code.proofs.Soundness as soundness

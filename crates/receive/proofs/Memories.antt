@@ -1,6 +1,6 @@
 -- What a line and a table hold after one more slot is what is remembered then. Assumes nothing.
 use Prim.Native.Nat.{ℕ, _+_, _-_, _*_, _%_, _<_, _≤_}
-use mathlib.Core.Path.{_≡_, refl, sym, _∙_, ap, ap₂}
+use mathlib.Core.Path.{_≡_, sym, _∙_, ap, ap₂}
 use mathlib.Core.Logic.{_≢_}
 use mathlib.Core.Bool.{true, cond, _&&_}
 use mathlib.Core.List.{List}
@@ -18,7 +18,7 @@ use Rattle.kinds.proofs.Lists.{map-same}
 use Rattle.code.specs.declared.sheet.Sheet.{Sheet}
 use Rattle.code.specs.Sheets.{T, n}
 use Rattle.code.proofs.Numbers.{lag-below, lag-some}
-use Rattle.line.specs.Ring.{entered, symbol-back, stretch}
+use Rattle.line.specs.Ring.{entered, look, symbol-back, stretch}
 use Rattle.line.proofs.Rings.{look-latest, look-earlier}
 use Rattle.receive.specs.declared.table.SlotState.{SlotState}
 use Rattle.receive.specs.declared.table.SlotState.the-variants.{Arrived, Missed}
@@ -71,7 +71,7 @@ module _ {S : Type 0} (K : Kind S) (p : Sheet) (t : ℕ) (states : List SlotStat
       let some : n p ≤ (t - s) * n p = omega (arith, mul-le-mul-right (n p) (let e : 1 ≤ t - s = omega arith in e), one-mul (n p)) in
       map-same _ _ (n p) z (λ i l. ap (λ o. valueOr o z)
       (look-earlier q held ((t + 1 - s) * n p - i) (omega arith) (omega arith)
-      ∙ ap (Rattle.line.specs.Ring.look held) (let e : ((t + 1 - s) * n p - i) - length q ≡ (t - s) * n p - i = omega arith in e)))
+      ∙ ap (look held) (let e : ((t + 1 - s) * n p - i) - length q ≡ (t - s) * n p - i = omega arith in e)))
 
   pub recall-earlier : (state : SlotState) (s : ℕ) → s < t → t < s + 2 * T p → recalled K p (t + 1) (set states (t % 512) state) (entered q held) s ≡ recalled K p t states held s
   recall-earlier state s low high =

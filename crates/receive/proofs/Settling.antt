@@ -1,9 +1,9 @@
 -- A missed block, from the parity symbols of its carrying slot and what that slot carries beside it. Assumes nothing.
-use Prim.Native.Nat.{ℕ, _+_, _-_, _*_, _/_, _<_}
+use Prim.Native.Nat.{ℕ, zero, suc, _+_, _-_, _*_, _/_, _<_}
 use mathlib.Core.Path.{_≡_, refl, sym, _∙_, ap, ap₂}
 use mathlib.Core.Logic.{inl, inr}
 use mathlib.Core.Bool.{Bool, true, false, cond, _&&_}
-use mathlib.Core.List.{List, [], _∷_, map}
+use mathlib.Core.List.{List, map}
 use native.Mathlib.Omega.{arith}
 use lib.ListN.{length, getD, replicate}
 use Rattle.std.specs.Iters.{counting}
@@ -15,7 +15,7 @@ use Rattle.kinds.proofs.Lists.{map-same}
 use Rattle.code.specs.declared.mark.Mark.{Mark}
 use Rattle.code.specs.declared.mark.Mark.the-variants.{Arrived, Mended, Lost}
 use Rattle.code.specs.declared.sheet.Sheet.{Sheet}
-use Rattle.code.specs.Sheets.{n, lag, column, carrier}
+use Rattle.code.specs.Sheets.{n, column, carrier}
 use Rattle.code.specs.Mending.{History, heard, got, beside, all-known, mends, mended, mark, given, marks-of, row-of}
 use Rattle.code.proofs.Carrying.{gathered}
 use Rattle.code.proofs.Pieces.{Begins, block-lag, block-column}
@@ -95,8 +95,8 @@ module _ {S : Type 0} (K : Kind S) (p : Sheet) (h : History S) (j from since : �
 
 -- a row that arrived is whole
 counted-none : (test : Mark → Bool) (m : ℕ) → test Arrived ≡ false → count test (replicate m Arrived) ≡ 0
-counted-none test Prim.Native.Nat.zero e = refl
-counted-none test (Prim.Native.Nat.suc m) e = omega (arith, ap {B = ℕ} (λ x. cond x 1 0) e, counted-none test m e)
+counted-none test zero e = refl
+counted-none test (suc m) e = omega (arith, ap {B = ℕ} (λ x. cond x 1 0) e, counted-none test m e)
 
 pub whole-verdict : (marks : List Mark) (m : ℕ) → marks ≡ replicate m Arrived → Verdict.Whole ≡ verdict marks
 whole-verdict marks m e =

@@ -1,9 +1,9 @@
 -- A loop over the blocks of a row. Assumes nothing.
 use Prim.Native.Nat.{ℕ, _+_, _-_, _*_, _/_, _%_, _≤_, _<_, min}
-use mathlib.Core.Path.{_≡_, refl, sym, _∙_, ap, ap₂}
+use mathlib.Core.Path.{_≡_, sym, _∙_, ap, ap₂}
 use mathlib.Core.List.{List, _++_, map}
 use native.Mathlib.Omega.{arith}
-use native.Mathlib.Nat.{zero-mod, zero-div, one-mul, add-mul, add-mod-right, add-div-right}
+use native.Mathlib.Nat.{zero-div, one-mul, add-mul, add-mod-right, add-div-right}
 use lib.ListN.{length, take}
 use borrow.Rule.Slice.PartMut.{putMid}
 use Rattle.std.specs.Iters.{counting}

@@ -11,7 +11,6 @@ use Rattle.code.specs.declared.mark.Mark.{Mark}
 use Rattle.code.specs.declared.refusal.SlotRefusal.{SlotRefusal}
 use Rattle.code.specs.declared.sheet.Sheet.{Sheet}
 use Rattle.code.specs.Sheets.{T}
-use Rattle.line.specs.declared.line.SymbolLine.{SymbolLine}
 use Rattle.line.specs.Line.{contents, beyond, fitting, Stays}
 use Rattle.receive.specs.declared.due.Due.{Due}
 use Rattle.receive.specs.declared.receiver.Receiver.{Receiver}
@@ -25,6 +24,10 @@ abbrev pub tally-of : (slots whole mended lost : ℕ) → Tally
 tally-of slots whole mended lost = record { slots = slots; whole = whole; mended = mended; lost = lost }
 
 module _ {S : Type 0} where
+  -- what the window of a receiver holds
+  abbrev pub window : Receiver S → List S
+  window r = r .line .window .now
+
   -- how many symbols the line of a receiver holds: over a window that is long enough, those that the receiver needs, else none
   abbrev pub room : Receiver S → ℕ
   room r = length (contents (r .line))
@@ -39,7 +42,7 @@ module _ {S : Type 0} where
     pub lost : r .counters .lost ≡ 0
     pub places : r .line .places ≡ fitting (need p) (length lent)
     pub room-is : room r ≡ fitting (need p) (length lent)
-    pub long : length (r .line .window .now) ≡ length lent
+    pub long : length (window r) ≡ length lent
     pub past : beyond (r .line) ≡ drop (fitting (need p) (length lent)) lent
 
   -- a call that is refused changes nothing

@@ -26,7 +26,7 @@ use Rattle.receive.specs.declared.tally.Tally.{Tally}
 use Rattle.receive.specs.Memory.{need}
 use Rattle.receive.specs.Refusing.{SlotReason}
 use Rattle.receive.specs.Handing.{Answer, Reply, Hands, one, whole-row, mended-row, lost-row}
-use Rattle.receive.specs.Calls.{tally-of}
+use Rattle.receive.specs.Calls.{window, tally-of}
 use Rattle.receive.specs.Runs.{Event, slot, tally, Run}
 
 -- what came goes in front where the call was not refused
@@ -111,7 +111,7 @@ module _ {S : Type 0} (K : Kind S) (p : Sheet) where
     -- If the missed slots of the run form bursts, nothing is marked lost.
     pub bursts : (group : ℕ → ℕ) → Bursts p (MissedIn es (taken es)) group → EachSymbol K p es (λ t j b symbol mark. mark ≢ Lost)
     -- What lies past the part of the window that a receiver needs is as it was, and all of a shorter window.
-    pub past : drop (fitting (need p) (length lent)) (q .line .window .now) ≡ drop (fitting (need p) (length lent)) lent
+    pub past : drop (fitting (need p) (length lent)) (window q) ≡ drop (fitting (need p) (length lent)) lent
 
   -- whatever calls follow on the receiver r
   abbrev pub Lawful : List S → Receiver S → Type 0

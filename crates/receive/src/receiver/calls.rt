@@ -6,7 +6,7 @@ ghost use Rattle.std.specs.declared.option.Option.the-variants.{Some, None};
 ghost use Rattle.receive.specs.Memory.{need};
 ghost use Rattle.receive.specs.Refusing.{slot-refused};
 ghost use Rattle.receive.specs.Handing.{replied};
-ghost use Rattle.receive.specs.Calls.{ReceiverMade, SlotCall, TallyCall, HandsOut};
+ghost use Rattle.receive.specs.Calls.{room, ReceiverMade, SlotCall, TallyCall, HandsOut};
 ghost use Rattle.receive.specs.Law.{Lawful};
 use super::Receiver;
 use crate::counters::Counters;
@@ -26,31 +26,6 @@ pub fn window_len(sheet: Sheet) -> usize
 {
     let slots = 2 * sheet.delay as usize;
     slots * sheet.packet_len()
-}
-
-// The first refusal that holds of a slot call, with a packet that fits or does not.
-fn slot_refusal(
-    sheet: Sheet,
-    window: usize,
-    slots: u32,
-    unfit: bool,
-    symbols: usize,
-    marks: usize,
-) -> Option<SlotRefusal>
-    ensures { λ r. ⌜ r ≡ slot-refused sheet window slots unfit symbols marks ⌝ }
-{
-    let row = sheet.row as usize;
-    if window < window_len(sheet) {
-        Some(SlotRefusal::Window)
-    } else if 1_000_000 <= slots {
-        Some(SlotRefusal::Slots)
-    } else if unfit {
-        Some(SlotRefusal::Packet)
-    } else if symbols != row || marks != row {
-        Some(SlotRefusal::Place)
-    } else {
-        None
-    }
 }
 
 impl<'w, S: Symbol> Receiver<'w, S> {
@@ -89,20 +64,12 @@ impl<'w, S: Symbol> Receiver<'w, S> {
     ) -> Result<Option<Due>, SlotRefusal>
         ensures { λ r. ⌜ SlotCall kind (now (self .entry)) (now (self .exit)) (Some (now (packet .entry))) (replied (now (row .entry)) (now (row .exit)) (now (marks .entry)) (now (marks .exit)) r) ⌝ }
     {
-        let sheet = self.sheet;
-        let slots = self.counters.slots;
-        let unfit = packet.len() != sheet.packet_len();
-        if let Some(refusal) = slot_refusal(
-            sheet,
-            self.line.len(),
-            slots,
-            unfit,
-            row.len(),
-            marks.len(),
-        ) {
+        let unfit = packet.len() != self.sheet.packet_len();
+        if let Some(refusal) = self.refusal(unfit, row.len(), marks.len()) {
             return Err(refusal);
         }
-        self.table.note(slots, SlotState::Arrived);
+        let slot = self.counters.slots;
+        self.table.note(slot, SlotState::Arrived);
         self.line.push_all(packet);
         Ok(self.hand_out(row, marks))
     }
@@ -111,21 +78,31 @@ impl<'w, S: Symbol> Receiver<'w, S> {
     pub fn missed(&mut self, row: &mut [S], marks: &mut [Mark]) -> Result<Option<Due>, SlotRefusal>
         ensures { λ r. ⌜ SlotCall kind (now (self .entry)) (now (self .exit)) None (replied (now (row .entry)) (now (row .exit)) (now (marks .entry)) (now (marks .exit)) r) ⌝ }
     {
-        let sheet = self.sheet;
-        let slots = self.counters.slots;
-        if let Some(refusal) = slot_refusal(
-            sheet,
-            self.line.len(),
-            slots,
-            false,
-            row.len(),
-            marks.len(),
-        ) {
+        if let Some(refusal) = self.refusal(false, row.len(), marks.len()) {
             return Err(refusal);
         }
-        self.table.note(slots, SlotState::Missed);
-        self.line.push_zeros(sheet.packet_len());
+        let slot = self.counters.slots;
+        self.table.note(slot, SlotState::Missed);
+        self.line.push_zeros(self.sheet.packet_len());
         Ok(self.hand_out(row, marks))
+    }
+
+    // The first refusal that holds of a slot call, with a packet that is fit or unfit, and places for so many symbols and marks.
+    fn refusal(&self, unfit: bool, symbols: usize, marks: usize) -> Option<SlotRefusal>
+        ensures { λ r. ⌜ r ≡ slot-refused (now (self .entry) .sheet) (room (now (self .entry))) (now (self .entry) .counters .slots) unfit symbols marks ⌝ }
+    {
+        let row = self.sheet.row as usize;
+        if self.line.len() < window_len(self.sheet) {
+            Some(SlotRefusal::Window)
+        } else if 1_000_000 <= self.counters.slots {
+            Some(SlotRefusal::Slots)
+        } else if unfit {
+            Some(SlotRefusal::Packet)
+        } else if symbols != row || marks != row {
+            Some(SlotRefusal::Place)
+        } else {
+            None
+        }
     }
 
     // Counts the slot that has just gone in, and hands out what falls due with it.

@@ -14,38 +14,8 @@ use super::calls::window_len;
 use crate::due::Due;
 use crate::table::SlotState;
 use code::Mark;
-use code::Sheet;
 use code::SlotRefusal;
 use kinds::Symbol;
-
-// The first refusal that holds of taking many slots.
-fn slots_refusal(
-    sheet: Sheet,
-    window: usize,
-    slots: u32,
-    count: usize,
-    packets: usize,
-    symbols: usize,
-    marks: usize,
-) -> Option<SlotRefusal>
-    ensures { λ r. ⌜ r ≡ slots-refused sheet window slots count packets symbols marks ⌝ }
-{
-    let left = 1_000_000u32.saturating_sub(slots) as usize;
-    if window < window_len(sheet) {
-        return Some(SlotRefusal::Window);
-    }
-    if left < count {
-        return Some(SlotRefusal::Slots);
-    }
-    let all = count * sheet.row as usize;
-    if packets != count * sheet.packet_len() {
-        Some(SlotRefusal::Packet)
-    } else if symbols != all || marks != all {
-        Some(SlotRefusal::Place)
-    } else {
-        None
-    }
-}
 
 impl<'w, S: Symbol> Receiver<'w, S> {
     // Takes a slot that is not refused, and answers what fell due with it.
@@ -84,11 +54,7 @@ impl<'w, S: Symbol> Receiver<'w, S> {
     ) -> Result<u32, SlotRefusal>
         ensures { λ r. ⌜ SlotsCall kind (now (self .entry)) (now (self .exit)) (slots-of (now (states .entry)) (now (packets .entry)) (now (rows .entry)) (now (rows .exit)) (now (marks .entry)) (now (marks .exit))) r ⌝ }
     {
-        let sheet = self.sheet;
-        if let Some(refusal) = slots_refusal(
-            sheet,
-            self.line.len(),
-            self.counters.slots,
+        if let Some(refusal) = self.slots_refusal(
             states.len(),
             packets.len(),
             rows.len(),
@@ -96,8 +62,8 @@ impl<'w, S: Symbol> Receiver<'w, S> {
         ) {
             return Err(refusal);
         }
-        let packet = sheet.packet_len();
-        let row = sheet.row as usize;
+        let packet = self.sheet.packet_len();
+        let row = self.sheet.row as usize;
         let mut handed = 0;
         for i in 0..states.len() {
             let from = i * packet;
@@ -114,5 +80,32 @@ impl<'w, S: Symbol> Receiver<'w, S> {
             }
         }
         Ok(handed)
+    }
+
+    // The first refusal that holds of taking so many slots.
+    fn slots_refusal(
+        &self,
+        count: usize,
+        packets: usize,
+        symbols: usize,
+        marks: usize,
+    ) -> Option<SlotRefusal>
+        ensures { λ r. ⌜ r ≡ slots-refused (now (self .entry) .sheet) (room (now (self .entry))) (now (self .entry) .counters .slots) count packets symbols marks ⌝ }
+    {
+        let left = 1_000_000u32.saturating_sub(self.counters.slots) as usize;
+        if self.line.len() < window_len(self.sheet) {
+            return Some(SlotRefusal::Window);
+        }
+        if left < count {
+            return Some(SlotRefusal::Slots);
+        }
+        let all = count * self.sheet.row as usize;
+        if packets != count * self.sheet.packet_len() {
+            Some(SlotRefusal::Packet)
+        } else if symbols != all || marks != all {
+            Some(SlotRefusal::Place)
+        } else {
+            None
+        }
     }
 }

@@ -1,4 +1,4 @@
-use mathlib.Core.Path.{_≡_, refl, sym, _∙_, ap₂}
+use mathlib.Core.Path.{_≡_, refl, sym, _∙_, ap}
 use mathlib.Core.Bool.{not}
 use Prim.Native.Nat.{ℕ}
 use lib.Dec.{eqb}
@@ -20,8 +20,8 @@ returns g c =
     let row = c .args .row .now in
     let marks = c .args .marks .now in
     let none : slot-refused p (room r) t (unfit p (Some q)) (length row) (length marks) ≡ None =
-    sym (ap₂ (λ (w m : ℕ). slot-refused p w t (not (eqb (length q) m)) (length row) (length marks)) (c .len .ensures) (c .packet-len .ensures))
-    ∙ sym (c .slot-refusal .ensures) ∙ c .in-rest .is in
+    sym (ap (λ (m : ℕ). slot-refused p (room r) t (not (eqb (length q) m)) (length row) (length marks)) (c .packet-len .ensures))
+    ∙ sym (c .refusal .ensures) ∙ c .in-rest .is in
     let fits : length q ≡ n p = eqb-true (length q) (n p) (not-false _ (accepted p (room r) t (unfit p (Some q)) (length row) (length marks) none .fit)) in
     slot-call (g .S·Symbol .kind) r _ (c .hand-out .last .self) (Some q) q row (c .hand-out .last .row) marks (c .hand-out .last .marks) (c .hand-out .result)
     none fits refl

@@ -1,7 +1,6 @@
-use mathlib.Core.Path.{_≡_, refl, ap, _∙_}
+use mathlib.Core.Path.{refl, ap, _∙_}
 use Prim.Native.Nat.{ℕ, _+_}
 use mathlib.Core.Bool.{cond}
-use native.Mathlib.Omega.{arith}
 use Rattle.line.specs.Line.{contents}
 use Rattle.receive.specs.Memory.{recalled}
 use Rattle.receive.specs.Handing.{whole-row, mended-row, lost-row}

@@ -1,17 +1,14 @@
-use borrow.Author.Needs.{needs}
 use mathlib.Core.Path.{_≡_, refl, sym, ap, _∙_}
 use mathlib.Core.List.{List, map}
 use Prim.Native.Nat.{ℕ, _+_, _-_, _≤_, _<_, min}
 use native.Mathlib.Omega.{arith}
-use native.Mathlib.Nat.{zero-mod}
 use lib.ListN.{length, take, drop}
 use Rattle.std.specs.Iters.{counting}
 use Rattle.std.proofs.shelf.Lists.{take-all, length-take-le, length-drop}
 use Rattle.code.specs.declared.mark.Mark.{Mark}
 use Rattle.code.specs.Mending.{heard, mark, given}
 use Rattle.receive.specs.Memory.{memory}
-use Rattle.receive.specs.Blocks.{size}
-use Rattle.receive.proofs.Stepping.{lag-none, whole-more, lag-more, lag-within, block-more}
+use Rattle.receive.proofs.Stepping.{whole-more, lag-more, lag-within, block-more}
 use Rattle.receive.proofs.receiver.Receiver.mend.Needs as need
 
 cut : {X : Type 0} (xs : List X) (from first r k end : ℕ) → from ≡ first → first < k → length xs ≡ k → end ≡ min (first + r) k → length (take (end - from) (drop from xs)) ≡ min r (k - first)

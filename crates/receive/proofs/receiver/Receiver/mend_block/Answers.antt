@@ -1,10 +1,9 @@
-use mathlib.Core.Path.{_≡_, refl, sym, ap, _∙_}
+use mathlib.Core.Path.{_≡_, sym, ap, _∙_}
 use mathlib.Core.Bool.{true, false}
-use Prim.Native.Nat.{ℕ, _+_, _-_, _*_, _<_}
+use Prim.Native.Nat.{ℕ, _+_, _-_, _*_}
 use native.Mathlib.Omega.{arith}
-use lib.ListN.{length}
 use Rattle.code.specs.Sheets.{n}
-use Rattle.code.specs.Mending.{heard, got}
+use Rattle.code.specs.Mending.{heard}
 use Rattle.line.specs.Ring.{symbol-back}
 use Rattle.line.specs.Line.{contents}
 use Rattle.receive.specs.Memory.{memory}

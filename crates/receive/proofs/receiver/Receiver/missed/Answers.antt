@@ -1,11 +1,9 @@
-use mathlib.Core.Path.{_≡_, refl, sym, _∙_, ap}
+use mathlib.Core.Path.{_≡_, refl, sym, _∙_}
 use mathlib.Core.Bool.{false}
-use Prim.Native.Nat.{ℕ}
 use lib.ListN.{length, replicate}
 use Rattle.std.proofs.shelf.Lists.{length-replicate}
 use Rattle.std.specs.declared.option.Option.the-variants.{None}
-use Rattle.code.specs.Sheets.{n}
-use Rattle.receive.specs.Refusing.{unfit, slot-refused}
+use Rattle.receive.specs.Refusing.{slot-refused}
 use Rattle.receive.specs.Calls.{room}
 use Rattle.receive.proofs.Slots.{slot-call}
 use Rattle.receive.proofs.receiver.Receiver.missed.Needs as need
@@ -18,8 +16,7 @@ returns g c =
     let z = g .S·Symbol .kind .zero in
     let row = c .args .row .now in
     let marks = c .args .marks .now in
-    let none : slot-refused p (room r) t false (length row) (length marks) ≡ None =
-    sym (ap (λ (w : ℕ). slot-refused p w t false (length row) (length marks)) (c .len .ensures)) ∙ sym (c .slot-refusal .ensures) ∙ c .in-rest .is in
+    let none : slot-refused p (room r) t false (length row) (length marks) ≡ None = sym (c .refusal .ensures) ∙ c .in-rest .is in
     slot-call (g .S·Symbol .kind) r _ (c .hand-out .last .self) None (replicate (c .packet-len .result) z) row (c .hand-out .last .row) marks (c .hand-out .last .marks) (c .hand-out .result)
     none (length-replicate (c .packet-len .result) z ∙ c .packet-len .ensures) tt
     (record {

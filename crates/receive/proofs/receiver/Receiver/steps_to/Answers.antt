@@ -1,8 +1,6 @@
-use mathlib.Core.Path.{_≡_, ap}
-use Prim.Native.Nat.{ℕ, _-_, _*_, _≤_}
+use Prim.Native.Nat.{ℕ, _-_, _≤_}
 use native.Mathlib.Omega.{arith}
 use native.Mathlib.Nat.{mul-le-mul-right, one-mul}
-use Rattle.code.specs.Sheets.{n}
 use Rattle.receive.proofs.receiver.Receiver.steps_to.Needs as need
 
 pub sub-result : need.sub-result

@@ -1,14 +1,12 @@
-use borrow.Author.Needs.{needs}
 use mathlib.Core.Path.{_≡_, sym, ap, _∙_}
 use mathlib.Core.Logic.{inl, inr}
 use mathlib.Core.List.{List, map}
-use Prim.Native.Nat.{ℕ, _+_, _-_, _*_, _≤_, _<_, min, max}
+use Prim.Native.Nat.{ℕ, _+_, _-_, _*_, _≤_, min, max}
 use native.Mathlib.Omega.{arith}
 use lib.ListN.{length}
 use Rattle.std.specs.Iters.{counting}
 use Rattle.std.proofs.shelf.Counted.{length-map-counting}
 use Rattle.code.specs.Sheets.{n}
-use Rattle.code.specs.Mending.{heard, got}
 use Rattle.line.specs.Ring.{symbol-back}
 use Rattle.line.specs.Line.{contents}
 use Rattle.receive.specs.Memory.{memory}

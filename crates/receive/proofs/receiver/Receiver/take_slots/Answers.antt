@@ -1,25 +1,15 @@
 use borrow.Author.Needs.{needs, scaled-fits≤}
 use mathlib.Core.Path.{_≡_, refl, sym, ap, _∙_}
 use mathlib.Core.Bool.{Bool, true, false, cond}
-use mathlib.Core.List.{List}
-use Prim.Native.Nat.{ℕ, _+_, _-_, _*_, _≤_, _<_}
+use Prim.Native.Nat.{ℕ, _+_, _-_, _*_, _≤_}
 use native.Mathlib.Omega.{arith}
 use lib.ListN.{length}
 use Rattle.std.specs.Options.{isSome}
-use Rattle.std.specs.declared.option.Option.{Option}
-use Rattle.std.specs.declared.option.Option.the-variants.{None}
-use Rattle.code.specs.declared.refusal.SlotRefusal.{SlotRefusal}
-use Rattle.code.specs.declared.sheet.Sheet.{Sheet}
 use Rattle.code.specs.Sheets.{n}
-use Rattle.receive.specs.Refusing.{slots-refused}
 use Rattle.receive.specs.Calls.{room}
-use Rattle.receive.proofs.Driving.{Enough, enough, part-ends, part-long, taking-none, taking-more}
+use Rattle.receive.proofs.Driving.{enough, part-ends, part-long, taking-none, taking-more}
 use Rattle.receive.proofs.receiver.Receiver.take_slots.Needs as need
 use Rattle.receive.proofs.receiver.Receiver.take_slots.Needs.{then-is-some, else-is-some}
-
-fits-of : (p : Sheet) (w w′ t m packets symbols marks : ℕ) (answer : Option SlotRefusal) → w′ ≡ w → answer ≡ slots-refused p w′ t m packets symbols marks → answer ≡ None → Enough p w t m packets symbols marks
-fits-of p w w′ t m packets symbols marks answer same is none =
-    enough p w t m packets symbols marks (sym (ap (λ (x : ℕ). slots-refused p x t m packets symbols marks) same) ∙ sym is ∙ none)
 
 one-more : (handed : ℕ) (b test : Bool) → test ≡ b → test ≡ true → handed + 1 ≡ handed + cond b 1 0
 one-more handed b test e t = ap (λ (x : Bool). handed + cond x 1 0) (sym t ∙ e)
@@ -30,14 +20,14 @@ no-more handed b test e t = (let z : handed ≡ handed + 0 = omega arith in z) �
 pub loop-i-holds : need.loop-i-holds
 loop-i-holds g c =
     let r = c .args .self .now in
-    let fits = fits-of (r .sheet) (room r) _ (r .counters .slots) (length (c .args .states .now)) (length (c .args .packets .now)) (length (c .args .rows .now)) (length (c .args .marks .now)) _ (c .len .ensures) (c .slots-refusal .ensures) (c .in-rest .is) in
+    let fits = enough (r .sheet) (room r) (r .counters .slots) (length (c .args .states .now)) (length (c .args .packets .now)) (length (c .args .rows .now)) (length (c .args .marks .now)) (sym (c .slots-refusal .ensures) ∙ c .in-rest .is) in
     taking-none (g .S·Symbol .kind) r (c .args .states .now) (c .args .packets .now) (c .args .rows .now) (c .args .marks .now) (fits .wide)
 
 pub offset-packets-from : need.offset-packets-from
 offset-packets-from g c =
     let r = c .args .self .now in
     let m = length (c .args .states .now) in
-    let fits = fits-of (r .sheet) (room r) _ (r .counters .slots) m (length (c .args .packets .now)) (length (c .args .rows .now)) (length (c .args .marks .now)) _ (c .len .ensures) (c .slots-refusal .ensures) (c .in-rest .is) in
+    let fits = enough (r .sheet) (room r) (r .counters .slots) m (length (c .args .packets .now)) (length (c .args .rows .now)) (length (c .args .marks .now)) (sym (c .slots-refusal .ensures) ∙ c .in-rest .is) in
     let same : c .loop-i .i * c .packet-len-packet .result ≡ c .loop-i .i * n (r .sheet) = ap (λ (x : ℕ). c .loop-i .i * x) (c .packet-len-packet .ensures) in
     omega (arith, part-ends (c .loop-i .i) m (n (r .sheet)) (c .loop-i-test .taken), fits .all-packets)
 
@@ -45,7 +35,7 @@ pub part-take-slot-end : need.part-take-slot-end
 part-take-slot-end g c =
     let r = c .args .self .now in
     let m = length (c .args .states .now) in
-    let fits = fits-of (r .sheet) (room r) _ (r .counters .slots) m (length (c .args .packets .now)) (length (c .args .rows .now)) (length (c .args .marks .now)) _ (c .len .ensures) (c .slots-refusal .ensures) (c .in-rest .is) in
+    let fits = enough (r .sheet) (room r) (r .counters .slots) m (length (c .args .packets .now)) (length (c .args .rows .now)) (length (c .args .marks .now)) (sym (c .slots-refusal .ensures) ∙ c .in-rest .is) in
     let same : c .loop-i .i * c .packet-len-packet .result ≡ c .loop-i .i * n (r .sheet) = ap (λ (x : ℕ). c .loop-i .i * x) (c .packet-len-packet .ensures) in
     let ends : c .loop-i .i * c .packet-len-packet .result + c .packet-len-packet .result ≤ length (c .args .packets .now) = omega (arith, part-ends (c .loop-i .i) m (n (r .sheet)) (c .loop-i-test .taken), fits .all-packets, c .packet-len-packet .ensures) in
     ends
@@ -54,7 +44,7 @@ pub offset-rows-start : need.offset-rows-start
 offset-rows-start g c =
     let r = c .args .self .now in
     let m = length (c .args .states .now) in
-    let fits = fits-of (r .sheet) (room r) _ (r .counters .slots) m (length (c .args .packets .now)) (length (c .args .rows .now)) (length (c .args .marks .now)) _ (c .len .ensures) (c .slots-refusal .ensures) (c .in-rest .is) in
+    let fits = enough (r .sheet) (room r) (r .counters .slots) m (length (c .args .packets .now)) (length (c .args .rows .now)) (length (c .args .marks .now)) (sym (c .slots-refusal .ensures) ∙ c .in-rest .is) in
     let starts : c .loop-i .i * r .sheet .row ≤ length (c .args .rows .now) = omega (arith, part-ends (c .loop-i .i) m (r .sheet .row) (c .loop-i-test .taken), fits .row-places) in
     scaled-fits≤ (c .loop-i .i * r .sheet .row) (length (c .args .rows .now)) _ starts (search needs)
 
@@ -62,7 +52,7 @@ pub part-take-slot-end-in-loop-i : need.part-take-slot-end-in-loop-i
 part-take-slot-end-in-loop-i g c =
     let r = c .args .self .now in
     let m = length (c .args .states .now) in
-    let fits = fits-of (r .sheet) (room r) _ (r .counters .slots) m (length (c .args .packets .now)) (length (c .args .rows .now)) (length (c .args .marks .now)) _ (c .len .ensures) (c .slots-refusal .ensures) (c .in-rest .is) in
+    let fits = enough (r .sheet) (room r) (r .counters .slots) m (length (c .args .packets .now)) (length (c .args .rows .now)) (length (c .args .marks .now)) (sym (c .slots-refusal .ensures) ∙ c .in-rest .is) in
     let ends : c .loop-i .i * r .sheet .row + r .sheet .row ≤ length (c .loop-i .rows) = omega (arith, part-ends (c .loop-i .i) m (r .sheet .row) (c .loop-i-test .taken), fits .row-places, c .loop-i .kept .rows) in
     ends
 
@@ -70,7 +60,7 @@ pub part-take-slot-end-in-loop-i-2 : need.part-take-slot-end-in-loop-i-2
 part-take-slot-end-in-loop-i-2 g c =
     let r = c .args .self .now in
     let m = length (c .args .states .now) in
-    let fits = fits-of (r .sheet) (room r) _ (r .counters .slots) m (length (c .args .packets .now)) (length (c .args .rows .now)) (length (c .args .marks .now)) _ (c .len .ensures) (c .slots-refusal .ensures) (c .in-rest .is) in
+    let fits = enough (r .sheet) (room r) (r .counters .slots) m (length (c .args .packets .now)) (length (c .args .rows .now)) (length (c .args .marks .now)) (sym (c .slots-refusal .ensures) ∙ c .in-rest .is) in
     let ends : c .loop-i .i * r .sheet .row + r .sheet .row ≤ length (c .loop-i .marks) = omega (arith, part-ends (c .loop-i .i) m (r .sheet .row) (c .loop-i-test .taken), fits .mark-places, c .loop-i .kept .marks) in
     ends
 
@@ -85,7 +75,7 @@ loop-i-again g c =
     let marks = c .args .marks .now in
     let i = c .loop-i .i in
     let size = c .packet-len-packet .result in
-    let fits = fits-of p (room r) _ (r .counters .slots) (length states) (length packets) (length rows) (length marks) _ (c .len .ensures) (c .slots-refusal .ensures) (c .in-rest .is) in
+    let fits = enough p (room r) (r .counters .slots) (length states) (length packets) (length rows) (length marks) (sym (c .slots-refusal .ensures) ∙ c .in-rest .is) in
     let last = part-ends i (length states) (p .row) (c .loop-i-test .taken) in
     let row-ends : i * p .row + p .row ≤ length (c .loop-i .rows) = omega (arith, fits .row-places, c .loop-i .kept .rows) in
     let mark-ends : i * p .row + p .row ≤ length (c .loop-i .marks) = omega (arith, fits .mark-places, c .loop-i .kept .marks) in

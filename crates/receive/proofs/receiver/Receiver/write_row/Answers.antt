@@ -1,14 +1,12 @@
-use mathlib.Core.Path.{_≡_, refl, sym, ap, _∙_}
+use mathlib.Core.Path.{_≡_, sym, _∙_}
 use mathlib.Core.Bool.{true}
-use Prim.Native.Nat.{ℕ, _+_, _-_, _*_, _<_}
-use native.Mathlib.Omega.{arith}
+use Prim.Native.Nat.{_-_}
 use lib.ListN.{length, replicate}
 use Rattle.code.specs.declared.mark.Mark.{Mark}
-use Rattle.code.specs.Sheets.{n}
-use Rattle.code.specs.Mending.{heard, mark, marks-of}
+use Rattle.code.specs.Mending.{heard, marks-of}
 use Rattle.line.specs.Line.{contents}
 use Rattle.receive.specs.Memory.{memory}
-use Rattle.receive.proofs.Settling.{filled-with, arrived-row, arrived-marks, whole-verdict}
+use Rattle.receive.proofs.Settling.{arrived-row, arrived-marks, whole-verdict}
 use Rattle.receive.proofs.receiver.Receiver.write_row.Needs as need
 
 pub returns-then-heard : need.returns-then-heard

@@ -6,7 +6,7 @@ use Rattle.std.proofs.shelf.Lists.{getD-read}
 use Rattle.code.specs.declared.mark.Mark.{Mark}
 use Rattle.line.specs.Ring.{symbol-back}
 use Rattle.line.specs.Line.{contents}
-use Rattle.line.proofs.Filling.{filled-at, filled-more, filled-all}
+use Rattle.line.proofs.Filling.{filled-read, filled-more, filled-all}
 use Rattle.receive.specs.Blocks.{settled}
 use Rattle.receive.proofs.receiver.mending.settle_all.Needs as need
 
@@ -18,7 +18,7 @@ loop-i-again g c =
     let old = c .args .places .now in
     let within : i < length places = omega arith in
     let was : c .index-places-i .result ≡ getD old i (K .zero) =
-    getD-read places i (c .index-places-i .result) within (c .index-places-i .is) (K .zero) ∙ ap (λ ys. getD ys i (K .zero)) (c .loop-i .inv) ∙ filled-at _ old i (K .zero) in
+    filled-read _ old i (c .index-places-i .result) (K .zero) places within (c .loop-i .inv) (c .index-places-i .is) in
     let is : c .back-or-zero-parity .result ≡ symbol-back (K .zero) (contents (c .args .line .now)) (c .args .steps - i) =
     c .back-or-zero-parity .ensures ∙ ap (symbol-back (K .zero) (contents (c .args .line .now))) (c .saturating-sub .ensures) in
     filled-more _ old i (c .settle .result) places (omega arith) (c .loop-i .inv)
