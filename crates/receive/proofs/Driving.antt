@@ -34,6 +34,7 @@ use Rattle.receive.specs.Handing.{Reply, replied, count}
 use Rattle.receive.specs.Calls.{tally-of, room, Taken, SlotWith, SlotCall}
 use Rattle.receive.specs.Runs.{Event, slot, tally, Run, stop, slot-call, tally-call}
 use Rattle.receive.specs.Driving.{part, arrival, Slots, slots-of, call, calls}
+use Rattle.receive.specs.Law.{slots}
 use Rattle.receive.proofs.Agreement.{hands-ok, room-stays}
 use Rattle.receive.proofs.Slots.{past}
 
@@ -240,3 +241,15 @@ module _ {S : Type 0} (K : Kind S) (p : Sheet) (t : ℕ) (before now now′ : Re
 
         old-marks : end - start ≡ p .row → take (end - start) (drop start marks′) ≡ part (p .row) marks i
         old-marks width = ap₂ (λ a b. take a (drop b marks′)) width starts ∙ ap (take (p .row)) (so-far .marks)
+
+module _ {S : Type 0} (p : Sheet) (x : Slots S) (dues : List (Option Due)) where
+  abbrev came-at : ℕ → Option (List S)
+  came-at i = arrival (getD (x .states) i Arrived) (part (n p) (x .packets) i)
+
+  slots-called : (is : List ℕ) → slots (map (call p x dues) is) ≡ map came-at is
+  slots-called [] = refl
+  slots-called (i ∷ is) = ap (λ xs. came-at i ∷ xs) (slots-called is)
+
+  -- the slots of such a run are those that were handed in
+  pub slots-driven : slots (calls p x dues) ≡ map came-at (counting 0 (length (x .states)))
+  slots-driven = slots-called (counting 0 (length (x .states)))

@@ -10,3 +10,4 @@ pub mod Reading
 pub mod Stepping
 pub mod Settling
 pub mod Driving
+pub mod Bursting

@@ -6,3 +6,4 @@ pub mod Calls
 pub mod Runs
 pub mod Driving
 pub mod Law
+pub mod Bursting

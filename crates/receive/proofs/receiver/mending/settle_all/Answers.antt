@@ -2,7 +2,6 @@ use mathlib.Core.Path.{_≡_, ap, ap₂, _∙_}
 use Prim.Native.Nat.{_-_, _<_}
 use native.Mathlib.Omega.{arith}
 use lib.ListN.{length, getD}
-use Rattle.std.proofs.shelf.Lists.{getD-read}
 use Rattle.code.specs.declared.mark.Mark.{Mark}
 use Rattle.line.specs.Ring.{symbol-back}
 use Rattle.line.specs.Line.{contents}
