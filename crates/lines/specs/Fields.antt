@@ -55,6 +55,7 @@ abbrev pub read-under : ℕ → ℕ → Option ℕ → Result ℕ FieldFault
 read-under at top None = Err (NotANumber at)
 read-under at top (Some n) = cond (leb n top) (Ok n) (Err (AboveTop at))
 
+-- the same, of a part of the line
 abbrev pub field-read : ℕ → ℕ → List ℕ → Result ℕ FieldFault
 field-read at top part = read-under at top (number-in part)
 

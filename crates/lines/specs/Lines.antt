@@ -49,6 +49,7 @@ module _ {S : Type 0} (F : Form S) where
   abbrev pub symbol-field : S → List ℕ
   symbol-field s = field (F .layout .width) (F .number s)
 
+  -- the fields of symbols, one after another
   abbrev pub symbol-fields : List S → List ℕ
   symbol-fields symbols = joined symbol-field symbols
 
@@ -70,6 +71,7 @@ module _ {S : Type 0} (F : Form S) where
   due-field Mended s = symbol-field s
   due-field Lost s = lost-field (F .layout .width)
 
+  -- the fields of a row that is handed out with these marks
   abbrev pub due-fields : List S → List Mark → List ℕ
   due-fields [] marks = []
   due-fields (s ∷ row) [] = []

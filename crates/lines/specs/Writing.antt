@@ -11,6 +11,7 @@ use Rattle.std.specs.declared.result.Result.the-variants.{Ok, Err}
 use Rattle.lines.specs.declared.write.WriteRefusal.{WriteRefusal}
 use Rattle.lines.specs.declared.write.WriteRefusal.the-variants.{Number, Length, Place}
 
+-- the refusal's number
 abbrev pub write-number : WriteRefusal → ℕ
 write-number Number = 5
 write-number Length = 13
@@ -47,6 +48,7 @@ abbrev pub due-refused : ℕ → ℕ → ℕ → ℕ → ℕ → ℕ → Option 
 due-refused width count number len marks place =
     first-refused (ltb 999999 number) (wrong count len || wrong count marks) (wrong (10 + count * width) place)
 
+-- a line of a number up to 999,999 alone
 abbrev pub missed-refused : ℕ → ℕ → Option WriteRefusal
 missed-refused number place = first-refused (ltb 999999 number) false (wrong 10 place)
 

@@ -43,6 +43,7 @@ paired line (Err e) = Err (line, e)
 abbrev pub Given : Type 0 → Type 0
 Given L = L × Standing
 
+-- what the reader answers
 abbrev pub answer-of : {L : Type 0} → Result (Given L) RunFault → Result L RunFault
 answer-of (Ok given) = Ok (given .0)
 answer-of (Err e) = Err e
@@ -59,12 +60,13 @@ standing-or standing (Err e) = standing
 
 -- `place` is the length of the place that is handed over for the symbols.
 module _ {S : Type 0} (F : Form S) where
-  -- `send` takes H, and then R
+  -- before the header, `send` takes an H line
   abbrev pub send-header : List ℕ → Option ℕ → Result (Given SendLine) LineFault
   send-header line None = Err fault.Letter
   send-header line (Some letter) =
       cond (eqb letter 72) (and-then (header-read line) (λ header. Ok (send.Header header, InRun header 0))) (Err fault.Letter)
 
+  -- .. and after it, R lines
   abbrev pub send-row : Header → ℕ → ℕ → List ℕ → Option ℕ → Result (Given SendLine) LineFault
   send-row header next place line None = Err fault.Letter
   send-row header next place line (Some letter) =
@@ -73,6 +75,7 @@ module _ {S : Type 0} (F : Form S) where
       Ok (send.Row next, InRun header (next + 1))))
       (Err fault.Letter)
 
+  -- what a line gives to the reader of `send`, by where it stands; once stopped it repeats its fault
   abbrev pub send-read : Standing → ℕ → List ℕ → Result (Given SendLine) RunFault
   send-read BeforeHeader place line = numbered-as 1 (send-header line (letter-of line))
   send-read (InRun header next) place line = numbered-as (next + 2) (send-row header next place line (letter-of line))
@@ -92,12 +95,13 @@ module _ {S : Type 0} (F : Form S) where
       answer-of (send-read standing place line) ≡ Err f →
       send-read (standing-of (send-read standing place line)) place′ line′ ≡ Err f
 
-  -- `mend` takes H, and then A and M
+  -- before the header, `mend` takes an H line
   abbrev pub mend-header : List ℕ → Option ℕ → Result (Given MendLine) LineFault
   mend-header line None = Err fault.Letter
   mend-header line (Some letter) =
       cond (eqb letter 72) (and-then (header-read line) (λ header. Ok (mend.Header header, InRun header 0))) (Err fault.Letter)
 
+  -- .. and after it, A and M lines
   abbrev pub mend-slot : Header → ℕ → ℕ → List ℕ → Option ℕ → Result (Given MendLine) LineFault
   mend-slot header next place line None = Err fault.Letter
   mend-slot header next place line (Some letter) =
@@ -107,6 +111,7 @@ module _ {S : Type 0} (F : Form S) where
       (and-then (missed-read next line) (λ missed. Ok (mend.Missed next, InRun header (next + 1))))
       (Err fault.Letter))
 
+  -- what a line gives to the reader of `mend`, by where it stands; once stopped it repeats its fault
   abbrev pub mend-read : Standing → ℕ → List ℕ → Result (Given MendLine) RunFault
   mend-read BeforeHeader place line = numbered-as 1 (mend-header line (letter-of line))
   mend-read (InRun header next) place line = numbered-as (next + 2) (mend-slot header next place line (letter-of line))
@@ -118,6 +123,7 @@ module _ {S : Type 0} (F : Form S) where
   mend-place (InRun header next) line before = symbols-or before (packet-into F (header .sheet) next (length before) line)
   mend-place (Stopped f) line before = before
 
+  -- once a line has stopped the reader, every later line gets the same fault
   abbrev pub Mend-repeats : Type 0
   Mend-repeats =
       (standing : Standing) (place place′ : ℕ) (line line′ : List ℕ) (f : RunFault) →

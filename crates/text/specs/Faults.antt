@@ -8,6 +8,7 @@ use Rattle.text.specs.declared.fault.LineFault.the-variants as line
 use Rattle.text.specs.declared.fault.RunFault.{RunFault}
 use Rattle.text.specs.declared.fault.RunFault.the-variants as run
 
+-- the refusal of a line
 abbrev pub line-number : LineFault → ℕ
 line-number line.Letter = 1
 line-number line.Length = 2
@@ -34,10 +35,12 @@ abbrev pub run-line : RunFault → ℕ
 run-line (run.Line number fault) = number
 run-line (run.Tail number refusal) = number
 
+-- the refusal that ends a run
 abbrev pub run-number : RunFault → ℕ
 run-number (run.Line number fault) = line-number fault
 run-number (run.Tail number refusal) = tail-number refusal
 
+-- the byte at which that line is wrong, or 0
 abbrev pub run-position : RunFault → ℕ
 run-position (run.Line number fault) = line-position fault
 run-position (run.Tail number refusal) = 0

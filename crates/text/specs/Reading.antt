@@ -27,11 +27,12 @@ abbrev pub and-then : {X Y E : Type 0} → Result X E → (X → Result Y E) →
 and-then (Ok x) f = f x
 and-then (Err e) f = Err e
 
--- a field's fault, and a sheet's refusal, as the line's
+-- a field's fault as the line's
 abbrev pub of-field : {X : Type 0} → Result X FieldFault → Result X LineFault
 of-field (Ok x) = Ok x
 of-field (Err e) = Err (fault.Field e)
 
+-- a sheet's refusal as the line's
 abbrev pub of-sheet : {X : Type 0} → Result X SheetRefusal → Result X LineFault
 of-sheet (Ok x) = Ok x
 of-sheet (Err e) = Err (fault.Sheet e)
@@ -107,10 +108,11 @@ missed-read next line =
 abbrev pub fitting : {S : Type 0} → LineFault → ℕ → Result (List S) LineFault → Result (List S) LineFault
 fitting misfit place read = and-then read (λ symbols. cond (eqb place (length symbols)) (Ok symbols) (Err misfit))
 
--- the row or packet of a line that goes into a place of this length
+-- the row of a line that goes into a place of this length
 abbrev pub row-into : {S : Type 0} → Form S → Sheet → ℕ → ℕ → List ℕ → Result (List S) LineFault
 row-into F p next place line = fitting (fault.Put put.Place) place (row-read F p next line)
 
+-- the packet of a line that goes into a place of this length
 abbrev pub packet-into : {S : Type 0} → Form S → Sheet → ℕ → ℕ → List ℕ → Result (List S) LineFault
 packet-into F p next place line = fitting (fault.Slot slot.Place) place (packet-read F p next line)
 

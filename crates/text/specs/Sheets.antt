@@ -14,10 +14,12 @@ use Rattle.code.specs.declared.sheet.Sheet.{Sheet}
 use Rattle.code.specs.declared.sheet.SheetRefusal.{SheetRefusal}
 use Rattle.code.specs.declared.sheet.SheetRefusal.the-variants.{Burst, Row, Parity, Delay}
 
+-- a refusal that does not hold
 not-refused : (b : Bool) (e : SheetRefusal) (o : Option SheetRefusal) → cond b (Some e) o ≡ None → (b ≡ false) × (o ≡ None)
 not-refused true e o h = let z : _≡_ {A = ℕ} 0 1 = cc in absurd (omega arith)
 not-refused false e o h = (refl, h)
 
+-- a number that is not outside
 inside : (top x : ℕ) → outside top x ≡ false → (1 ≤ x) × (x ≤ top)
 inside top x h =
     let p = or-parts (ltb x 1) (ltb top x) h in
@@ -33,6 +35,7 @@ limits burst row parity h =
     let t = not-refused (ltb 256 (delay-of burst row parity)) Delay None (r .1) in
     (inside 32 burst (b .0), inside 48 row (k .0), inside 16 parity (r .0), ltb-false 256 (delay-of burst row parity) (t .0))
 
+-- the same by the first refusal that holds, if one does
 unfoldable pub made-by : (burst row parity : ℕ) (refused : Option SheetRefusal) → sheet-refused burst row parity ≡ refused →
     Result Sheet SheetRefusal
 made-by burst row parity (Some e) h = Err e
