@@ -1,5 +1,5 @@
-// A tour of the link: one list is sent through two halls. In the first a burst of slots is missed and mended; in the second
-// the misses lie so that some symbols are lost for good, and the unit says so.
+// A tour of the link: one list is sent twice. The first time a burst of slots is missed and mended; the second time the misses
+// lie so that some symbols are lost for good, and the receiver says so.
 use code::Mark;
 use code::Sheet;
 use kinds::Digit;
@@ -77,7 +77,7 @@ fn show_due(
     show_verdict(rt, due.verdict)
 }
 
-// One slot at the unit: the packet arrives or is missed, and what falls due is shown.
+// One slot at the receiver: the packet arrives or is missed, and what falls due is shown.
 fn hear(
     rt: &impl Print,
     receiver: &mut Receiver<'_, Digit>,
@@ -103,7 +103,7 @@ fn hear(
     Ok(())
 }
 
-// Puts every row and lets the unit hear its packet.
+// Puts every row and lets the receiver hear its packet.
 fn send_rows(
     rt: &impl Print,
     sender: &mut Sender<'_, Digit>,
@@ -120,7 +120,7 @@ fn send_rows(
     Ok(())
 }
 
-// Draws every tail packet and lets the unit hear it.
+// Draws every tail packet and lets the receiver hear it.
 fn send_tail(
     rt: &impl Print,
     winding: &mut WindingSender<'_, Digit>,
@@ -137,8 +137,8 @@ fn send_tail(
     Ok(())
 }
 
-// Sends the list through a hall in which these slots are missed.
-fn hall(rt: &impl Print, sheet: Sheet, missed: &[u32]) -> Result<(), AnyError> {
+// Sends the list to a receiver that misses these slots.
+fn send_list(rt: &impl Print, sheet: Sheet, missed: &[u32]) -> Result<(), AnyError> {
     let mut near = [Digit::D0; 24];
     let mut far = [Digit::D0; 72];
     let ends = Ends::new(sheet, &mut near, &mut far);
@@ -206,9 +206,9 @@ fn tour(rt: &impl Print, sheet: Sheet) -> Result<(), AnyError> {
         rt,
         "\nslots 0, 1 and 2 are missed (+ marks a mended symbol):"
     )?;
-    hall(rt, sheet, &[0, 1, 2])?;
+    send_list(rt, sheet, &[0, 1, 2])?;
     println!(rt, "\nslots 0 and 3 are missed (? marks a lost symbol):")?;
-    hall(rt, sheet, &[0, 3])?;
+    send_list(rt, sheet, &[0, 3])?;
     println!(rt, "\nwindows:")?;
     windows(rt, sheet, &mut [Digit::D0; 24], &mut [Digit::D0; 72])?;
     windows(rt, sheet, &mut [Digit::D0; 23], &mut [Digit::D0; 71])
