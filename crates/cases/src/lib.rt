@@ -1,4 +1,6 @@
 // Examples of each layer, as tests: small numbers worked by hand.
+#![tactic(auto)]
+
 #[cfg(test)]
 mod lines;
 #[cfg(test)]

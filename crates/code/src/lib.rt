@@ -1,4 +1,6 @@
 // The code: which slot and parity column carries which symbol, and what a receiver can make of what arrived.
+#![tactic(auto)]
+
 mod mark;
 mod published;
 mod refusal;

@@ -1,4 +1,6 @@
 // Kinds of symbol: what a row is made of.
+#![tactic(auto)]
+
 mod byte;
 mod digit;
 mod layout;

@@ -1,4 +1,6 @@
 // The symbol line: a delay line over a window that the caller lends.
+#![tactic(auto)]
+
 mod line;
 mod ring;
 

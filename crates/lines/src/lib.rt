@@ -1,4 +1,6 @@
 // Numbers in fields, and the lines of text as they are written.
+#![tactic(auto)]
+
 mod field;
 mod header;
 mod put;

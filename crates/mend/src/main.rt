@@ -1,4 +1,6 @@
 // `mend`: reads packets as text, with those that were missed, and prints the rows as text.
+#![tactic(auto)]
+
 use anyhow::anyhow;
 use code::Mark;
 use kinds::{Byte, Digit, Printed, Symbol};

@@ -1,4 +1,6 @@
 // From an input, through a run over its lines, to an output: what is decided is written before more is read.
+#![tactic(auto)]
+
 mod flow;
 mod pieces;
 

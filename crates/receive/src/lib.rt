@@ -1,4 +1,6 @@
 // The receiving end: slots go in, each arrived or missed, and rows come out.
+#![tactic(auto)]
+
 mod bursts;
 mod counters;
 mod due;

@@ -1,4 +1,6 @@
 // Every refusal that a text can meet, with its line and position, through the functions behind `send` and `mend`.
+#![tactic(auto)]
+
 use code::Sheet;
 use kinds::{Digit, Printed};
 use lines::{Header, SymbolKind, write_row};

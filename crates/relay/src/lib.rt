@@ -1,4 +1,6 @@
 // Both programs one after the other: what `send` prints for a list of rows, `mend` reads, whatever slots are missed.
+#![tactic(auto)]
+
 mod passing;
 mod relaying;
 

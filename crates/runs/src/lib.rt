@@ -1,4 +1,6 @@
 // The readers of whole runs.
+#![tactic(auto)]
+
 mod memory;
 mod mend;
 mod print;

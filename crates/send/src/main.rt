@@ -1,4 +1,6 @@
 // `send`: reads a list of rows as text, and prints its packets as text.
+#![tactic(auto)]
+
 use anyhow::anyhow;
 use kinds::{Byte, Digit, Printed, Symbol};
 use lines::{Header, SymbolKind};

@@ -1,4 +1,6 @@
 // `send` over a whole text: the header, and then the run of the kind that it names.
+#![tactic(auto)]
+
 mod filter;
 mod opening;
 

@@ -1,4 +1,6 @@
 // A stream of bytes, handed on line by line.
+#![tactic(auto)]
+
 mod feed;
 mod run;
 

@@ -1,4 +1,6 @@
 // The lines of text as they are read, and what can be wrong with them.
+#![tactic(auto)]
+
 mod fault;
 mod read;
 

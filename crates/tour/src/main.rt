@@ -1,5 +1,7 @@
 // A tour of the link: one list is sent twice. The first time a burst of slots is missed and mended; the second time the misses
 // lie so that some symbols are lost for good, and the receiver says so.
+#![tactic(auto)]
+
 use code::{Mark, Sheet};
 use kinds::{Digit, Printed};
 use link::Ends;

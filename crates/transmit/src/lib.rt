@@ -1,4 +1,6 @@
 // The sending end: rows go in, packets come out.
+#![tactic(auto)]
+
 mod count;
 mod parities;
 mod sender;
