@@ -6,7 +6,7 @@ use kinds::Symbol;
 
 // Answers its own sheet; its contract is that the packets are those of the published construction.
 pub fn as_published<S: Symbol>(sheet: Sheet) -> Sheet
-    ensures { AsPublished S.Symbol.kind sheet }
+    ensures { AsPublished S.kind sheet }
 {
     sheet
 }

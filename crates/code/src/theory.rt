@@ -6,7 +6,7 @@ use kinds::Symbol;
 
 // Answers its own sheet; its contract is the theory.
 pub fn stands<S: Symbol>(sheet: Sheet) -> Sheet
-    ensures { Theory S.Symbol.kind sheet }
+    ensures { Theory S.kind sheet }
 {
     sheet
 }

@@ -7,7 +7,7 @@ use kinds::Symbol;
 
 // Writes zero into every place.
 pub fn clear<S: Symbol>(ring: &mut [S])
-    ensures { ring.new ≡ replicate (length ring.old) kind.zero }
+    ensures { ring.new ≡ replicate (length ring.old) S.kind.zero }
 {
     for place in ring.iter_mut() {
         *place = S::zero();
@@ -86,7 +86,7 @@ pub(crate) fn back<S: Copy>(ring: &[S], head: usize, steps: usize) -> Option<S>
 
 // The symbol that went in so many symbols ago, and zero where there is none.
 fn back_or_zero<S: Symbol>(ring: &[S], head: usize, steps: usize) -> S
-    ensures { result ≡ symbol_back kind.zero (held head ring.now) steps }
+    ensures { result ≡ symbol_back S.kind.zero (held head ring.now) steps }
 {
     match back(ring, head, steps) {
         Some(symbol) => symbol,
@@ -96,7 +96,7 @@ fn back_or_zero<S: Symbol>(ring: &[S], head: usize, steps: usize) -> S
 
 // Writes the symbols that begin `steps` back into a place.
 pub(crate) fn copy_back<S: Symbol>(ring: &[S], head: usize, steps: usize, place: &mut [S])
-    ensures { place.new ≡ stretch kind.zero (held head ring.now) steps (length place.old) }
+    ensures { place.new ≡ stretch S.kind.zero (held head ring.now) steps (length place.old) }
 {
     match piece(ring.len(), head, steps, place.len()) {
         Some(at) => place.copy_from_slice(&ring[at..at + place.len()]),
@@ -106,7 +106,7 @@ pub(crate) fn copy_back<S: Symbol>(ring: &[S], head: usize, steps: usize, place:
 
 // The same, one symbol at a time.
 fn copy_each<S: Symbol>(ring: &[S], head: usize, steps: usize, place: &mut [S])
-    ensures { place.new ≡ stretch kind.zero (held head ring.now) steps (length place.old) }
+    ensures { place.new ≡ stretch S.kind.zero (held head ring.now) steps (length place.old) }
 {
     for i in 0..place.len() {
         place[i] = back_or_zero(ring, head, steps.saturating_sub(i));
@@ -115,7 +115,7 @@ fn copy_each<S: Symbol>(ring: &[S], head: usize, steps: usize, place: &mut [S])
 
 // Adds the symbols that begin `steps` back to what a place holds.
 pub(crate) fn add_back<S: Symbol>(ring: &[S], head: usize, steps: usize, place: &mut [S])
-    ensures { place.new ≡ added kind (held head ring.now) steps place.old }
+    ensures { place.new ≡ added S.kind (held head ring.now) steps place.old }
 {
     match piece(ring.len(), head, steps, place.len()) {
         Some(at) => add_piece(&ring[at..at + place.len()], place),
@@ -126,7 +126,7 @@ pub(crate) fn add_back<S: Symbol>(ring: &[S], head: usize, steps: usize, place: 
 // Adds symbol by symbol.
 fn add_piece<S: Symbol>(symbols: &[S], place: &mut [S])
     requires { length symbols.now ≡ length place.old }
-    ensures { place.new ≡ map (λ i. kind.sum (slice_index_or symbols.now i kind.zero) (slice_index_or place.old i kind.zero)) (range_with_len 0 (length place.old)) }
+    ensures { place.new ≡ map (λ i. S.kind.sum (slice_index_or symbols.now i S.kind.zero) (slice_index_or place.old i S.kind.zero)) (range_with_len 0 (length place.old)) }
 {
     for i in 0..place.len() {
         place[i] = symbols[i].sum(place[i]);
@@ -134,7 +134,7 @@ fn add_piece<S: Symbol>(symbols: &[S], place: &mut [S])
 }
 
 fn add_each<S: Symbol>(ring: &[S], head: usize, steps: usize, place: &mut [S])
-    ensures { place.new ≡ added kind (held head ring.now) steps place.old }
+    ensures { place.new ≡ added S.kind (held head ring.now) steps place.old }
 {
     for i in 0..place.len() {
         place[i] = back_or_zero(ring, head, steps.saturating_sub(i)).sum(place[i]);
@@ -143,7 +143,7 @@ fn add_each<S: Symbol>(ring: &[S], head: usize, steps: usize, place: &mut [S])
 
 // So many zeros go in; answers the new head.
 pub(crate) fn enter_zeros<S: Symbol>(ring: &mut [S], from: usize, count: usize) -> usize
-    ensures { held result ring.new ≡ entered (replicate count kind.zero) (held from ring.old) }
+    ensures { held result ring.new ≡ entered (replicate count S.kind.zero) (held from ring.old) }
 {
     let len = ring.len();
     if len == 0 {

@@ -98,7 +98,7 @@ impl Field<'_> {
 
     // The symbol in the field.
     pub fn read_symbol<P: Printed>(self) -> Result<P, FieldFault>
-        ensures { result ≡ symbol_read P.Printed.form self.entry.at self.entry.bytes.now }
+        ensures { result ≡ symbol_read P.form self.entry.at self.entry.bytes.now }
     {
         let at = self.at;
         match number_of(self.bytes) {

@@ -50,9 +50,9 @@ pub(crate) fn put_lost(place: &mut [u8], at: usize, width: usize) -> usize
 }
 
 pub(crate) fn put_symbols<P: Printed>(place: &mut [u8], at: usize, symbols: &[P]) -> usize
-    requires { at + length symbols.now * P.Printed.form.layout.width ≤ length place.old }
-    ensures next { result ≡ at + length symbols.now * P.Printed.form.layout.width }
-    ensures after { take result place.new ≡ take at place.old ++ symbol_fields P.Printed.form symbols.now }
+    requires { at + length symbols.now * P.form.layout.width ≤ length place.old }
+    ensures next { result ≡ at + length symbols.now * P.form.layout.width }
+    ensures after { take result place.new ≡ take at place.old ++ symbol_fields P.form symbols.now }
 {
     let width = P::layout().width;
     let mut next = at;
@@ -69,10 +69,10 @@ fn put_due_symbol<P: Printed>(
     symbol: P,
     mark: Mark,
 ) -> usize
-    requires kind { width ≡ P.Printed.form.layout.width }
+    requires kind { width ≡ P.form.layout.width }
     requires within { at + width ≤ length place.old }
     ensures next { result ≡ at + width }
-    ensures after { take result place.new ≡ take at place.old ++ due_field P.Printed.form mark symbol }
+    ensures after { take result place.new ≡ take at place.old ++ due_field P.form mark symbol }
 {
     match mark {
         Mark::Arrived | Mark::Mended => put_number(place, at, width, symbol.number()),
@@ -87,9 +87,9 @@ pub(crate) fn put_due_symbols<P: Printed>(
     marks: &[Mark],
 ) -> usize
     requires paired { length marks.now ≡ length row.now }
-    requires within { at + length row.now * P.Printed.form.layout.width ≤ length place.old }
-    ensures next { result ≡ at + length row.now * P.Printed.form.layout.width }
-    ensures after { take result place.new ≡ take at place.old ++ due_fields P.Printed.form row.now marks.now }
+    requires within { at + length row.now * P.form.layout.width ≤ length place.old }
+    ensures next { result ≡ at + length row.now * P.form.layout.width }
+    ensures after { take result place.new ≡ take at place.old ++ due_fields P.form row.now marks.now }
 {
     let width = P::layout().width;
     let mut next = at;

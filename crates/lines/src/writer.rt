@@ -48,7 +48,7 @@ fn write_symbols<P: Printed>(
     symbols: &[P],
 ) -> Result<(), WriteRefusal>
     requires { count ≤ 64 }
-    ensures { Wrote (symbols_refused P.Printed.form.layout.width count number (length symbols.now) (length place.old)) (ended (symbols_line P.Printed.form letter number symbols.now)) place.old result place.new }
+    ensures { Wrote (symbols_refused P.form.layout.width count number (length symbols.now) (length place.old)) (ended (symbols_line P.form letter number symbols.now)) place.old result place.new }
 {
     if 999_999 < number {
         return Err(WriteRefusal::Number);
@@ -73,7 +73,7 @@ pub fn write_row<P: Printed>(
     number: u32,
     row: &[P],
 ) -> Result<(), WriteRefusal>
-    ensures { Wrote (symbols_refused P.Printed.form.layout.width sheet.row number (length row.now) (length place.old)) (ended (row_line P.Printed.form number row.now)) place.old result place.new }
+    ensures { Wrote (symbols_refused P.form.layout.width sheet.row number (length row.now) (length place.old)) (ended (row_line P.form number row.now)) place.old result place.new }
 {
     write_symbols(place, b'R', sheet.row as usize, number, row)
 }
@@ -85,7 +85,7 @@ pub fn write_packet<P: Printed>(
     number: u32,
     packet: &[P],
 ) -> Result<(), WriteRefusal>
-    ensures { Wrote (symbols_refused P.Printed.form.layout.width (n sheet) number (length packet.now) (length place.old)) (ended (packet_line P.Printed.form number packet.now)) place.old result place.new }
+    ensures { Wrote (symbols_refused P.form.layout.width (n sheet) number (length packet.now) (length place.old)) (ended (packet_line P.form number packet.now)) place.old result place.new }
 {
     write_symbols(place, b'A', sheet.packet_len(), number, packet)
 }
@@ -138,7 +138,7 @@ pub fn write_due<P: Printed>(
     row: &[P],
     marks: &[Mark],
 ) -> Result<(), WriteRefusal>
-    ensures { Wrote (due_refused P.Printed.form.layout.width sheet.row number (length row.now) (length marks.now) (length place.old)) (ended (due_line P.Printed.form number row.now marks.now)) place.old result place.new }
+    ensures { Wrote (due_refused P.form.layout.width sheet.row number (length row.now) (length marks.now) (length place.old)) (ended (due_line P.form number row.now marks.now)) place.old result place.new }
 {
     let count = sheet.row as usize;
     if 999_999 < number {
@@ -206,7 +206,7 @@ pub fn write_refusal(
 }
 
 fn length_of<P: Printed>(letter: char, sheet: Sheet) -> Option<usize>
-    ensures { result ≡ line_length P.Printed.form.layout sheet letter }
+    ensures { result ≡ line_length P.form.layout sheet letter }
 {
     let width = P::layout().width;
     match letter {
@@ -225,8 +225,8 @@ fn length_of<P: Printed>(letter: char, sheet: Sheet) -> Option<usize>
 
 // The bytes of the line with this letter, byte 10 included, or none where no line has it.
 pub fn line_len<P: Printed>(letter: char, sheet: Sheet) -> Option<usize>
-    ensures value { result ≡ line_length P.Printed.form.layout sheet letter }
-    ensures lengths { Lengths P.Printed.form sheet }
+    ensures value { result ≡ line_length P.form.layout sheet letter }
+    ensures lengths { Lengths P.form sheet }
 {
     length_of::<P>(letter, sheet)
 }

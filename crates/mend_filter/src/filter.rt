@@ -22,7 +22,7 @@ fn feed_whole<P: Printed>(
     text: &[u8],
     out: &mut Vec<u8>,
 ) -> Result<(), AllocError>
-    ensures { OnOk result (FedWhole P.Symbol.kind P.Printed.form run.old run.new text.now out.old.items out.new.items) }
+    ensures { OnOk result (FedWhole P.kind P.form run.old run.new text.now out.old.items out.new.items) }
 {
     let mut feed = LineFeed::new(heap);
     feed.feed(run, text, out)?;
@@ -40,7 +40,7 @@ fn mend_slots<P: Printed>(
     text: &[u8],
     out: &mut Vec<u8>,
 ) -> Result<(), AllocError>
-    ensures { OnOk result (out.new.items ≡ out.old.items ++ list_text P.Symbol.kind P.Printed.form header.sheet (reading (slot_read P.Printed.form header.sheet) 0 (lines_of text.now))) }
+    ensures { OnOk result (out.new.items ≡ out.old.items ++ list_text P.kind P.form header.sheet (reading (slot_read P.form header.sheet) 0 (lines_of text.now))) }
 {
     let sheet = header.sheet;
     let mut window = filled(heap, P::zero(), window_len(sheet))?;

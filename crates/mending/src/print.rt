@@ -21,7 +21,7 @@ fn due_through<P: Printed>(
     marks: &[Mark],
     out: &mut Vec<u8>,
 ) -> Result<(), AllocError>
-    ensures { OnOk result (out.new.items ≡ out.old.items ++ unless (due_refused P.Printed.form.layout.width sheet.row number (length row.now) (length marks.now) (length line.old)) (ended (due_line P.Printed.form number row.now marks.now))) }
+    ensures { OnOk result (out.new.items ≡ out.old.items ++ unless (due_refused P.form.layout.width sheet.row number (length row.now) (length marks.now) (length line.old)) (ended (due_line P.form number row.now marks.now))) }
 {
     let written = write_due(line, sheet, number, row, marks);
     print_line(written, line, out)?;
@@ -36,7 +36,7 @@ pub(crate) fn print_due<P: Printed>(
     marks: &[Mark],
     out: &mut Vec<u8>,
 ) -> Result<(), AllocError>
-    ensures { OnOk result (out.new.items ≡ out.old.items ++ due_printed P.Printed.form sheet number row.now marks.now) }
+    ensures { OnOk result (out.new.items ≡ out.old.items ++ due_printed P.form sheet number row.now marks.now) }
 {
     let mut line = [0; 394];
     let len = 10 + sheet.row as usize * P::layout().width;

@@ -59,9 +59,9 @@ impl MendReader {
 
     // Takes a line where the reader stands. A fault leaves the standing to `read`.
     fn take<P: Printed>(&mut self, line: &[u8], packet: &mut [P]) -> Result<MendLine, RunFault>
-        ensures answer { result ≡ answer_of (mend_read P.Printed.form self.old.standing (length packet.old) line.now) }
-        ensures standing { self.new.standing ≡ standing_or self.old.standing (mend_read P.Printed.form self.old.standing (length packet.old) line.now) }
-        ensures place { packet.new ≡ mend_place P.Printed.form self.old.standing line.now packet.old }
+        ensures answer { result ≡ answer_of (mend_read P.form self.old.standing (length packet.old) line.now) }
+        ensures standing { self.new.standing ≡ standing_or self.old.standing (mend_read P.form self.old.standing (length packet.old) line.now) }
+        ensures place { packet.new ≡ mend_place P.form self.old.standing line.now packet.old }
     {
         let at = self.standing.line();
         match (&self.standing, letter_of(line)) {
@@ -100,10 +100,10 @@ impl MendReader {
 
     // What the next line gives. Once stopped by a fault, the reader repeats it.
     pub fn read<P: Printed>(&mut self, line: &[u8], packet: &mut [P]) -> Result<MendLine, RunFault>
-        ensures answer { result ≡ answer_of (mend_read P.Printed.form self.old.standing (length packet.old) line.now) }
-        ensures standing { self.new.standing ≡ standing_of (mend_read P.Printed.form self.old.standing (length packet.old) line.now) }
-        ensures place { packet.new ≡ mend_place P.Printed.form self.old.standing line.now packet.old }
-        ensures repeats { MendRepeats P.Printed.form }
+        ensures answer { result ≡ answer_of (mend_read P.form self.old.standing (length packet.old) line.now) }
+        ensures standing { self.new.standing ≡ standing_of (mend_read P.form self.old.standing (length packet.old) line.now) }
+        ensures place { packet.new ≡ mend_place P.form self.old.standing line.now packet.old }
+        ensures repeats { MendRepeats P.form }
     {
         let taken = self.take(line, packet);
         if let Err(fault) = taken {

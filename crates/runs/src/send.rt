@@ -59,9 +59,9 @@ impl SendReader {
 
     // Takes a line where the reader stands. A fault leaves the standing to `read`.
     fn take<P: Printed>(&mut self, line: &[u8], row: &mut [P]) -> Result<SendLine, RunFault>
-        ensures answer { result ≡ answer_of (send_read P.Printed.form self.old.standing (length row.old) line.now) }
-        ensures standing { self.new.standing ≡ standing_or self.old.standing (send_read P.Printed.form self.old.standing (length row.old) line.now) }
-        ensures place { row.new ≡ send_place P.Printed.form self.old.standing line.now row.old }
+        ensures answer { result ≡ answer_of (send_read P.form self.old.standing (length row.old) line.now) }
+        ensures standing { self.new.standing ≡ standing_or self.old.standing (send_read P.form self.old.standing (length row.old) line.now) }
+        ensures place { row.new ≡ send_place P.form self.old.standing line.now row.old }
     {
         let at = self.standing.line();
         match (&self.standing, letter_of(line)) {
@@ -90,10 +90,10 @@ impl SendReader {
 
     // What the next line gives. Once stopped by a fault, the reader repeats it.
     pub fn read<P: Printed>(&mut self, line: &[u8], row: &mut [P]) -> Result<SendLine, RunFault>
-        ensures answer { result ≡ answer_of (send_read P.Printed.form self.old.standing (length row.old) line.now) }
-        ensures standing { self.new.standing ≡ standing_of (send_read P.Printed.form self.old.standing (length row.old) line.now) }
-        ensures place { row.new ≡ send_place P.Printed.form self.old.standing line.now row.old }
-        ensures repeats { SendRepeats P.Printed.form }
+        ensures answer { result ≡ answer_of (send_read P.form self.old.standing (length row.old) line.now) }
+        ensures standing { self.new.standing ≡ standing_of (send_read P.form self.old.standing (length row.old) line.now) }
+        ensures place { row.new ≡ send_place P.form self.old.standing line.now row.old }
+        ensures repeats { SendRepeats P.form }
     {
         let taken = self.take(line, row);
         if let Err(fault) = taken {

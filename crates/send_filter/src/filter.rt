@@ -22,7 +22,7 @@ fn send_rows<P: Printed>(
     text: &[u8],
     out: &mut Vec<u8>,
 ) -> Result<(), AllocError>
-    ensures { OnOk result (out.new.items ≡ out.old.items ++ list_text P.Symbol.kind P.Printed.form header.sheet (reading (row_read P.Printed.form header.sheet) 0 (lines_of text.now))) }
+    ensures { OnOk result (out.new.items ≡ out.old.items ++ list_text P.kind P.form header.sheet (reading (row_read P.form header.sheet) 0 (lines_of text.now))) }
 {
     let sheet = header.sheet;
     let mut window = filled(heap, P::zero(), window_len(sheet))?;

@@ -20,7 +20,7 @@ fn print_through<P: Printed>(
     packet: &[P],
     out: &mut Vec<u8>,
 ) -> Result<(), AllocError>
-    ensures { OnOk result (out.new.items ≡ out.old.items ++ unless (symbols_refused P.Printed.form.layout.width (n sheet) slot (length packet.now) (length line.old)) (ended (packet_line P.Printed.form slot packet.now))) }
+    ensures { OnOk result (out.new.items ≡ out.old.items ++ unless (symbols_refused P.form.layout.width (n sheet) slot (length packet.now) (length line.old)) (ended (packet_line P.form slot packet.now))) }
 {
     let written = write_packet(line, sheet, slot, packet);
     print_line(written, line, out)?;
@@ -34,7 +34,7 @@ pub(crate) fn print_packet<P: Printed>(
     packet: &[P],
     out: &mut Vec<u8>,
 ) -> Result<(), AllocError>
-    ensures { OnOk result (out.new.items ≡ out.old.items ++ packet_text P.Printed.form sheet slot packet.now) }
+    ensures { OnOk result (out.new.items ≡ out.old.items ++ packet_text P.form sheet slot packet.now) }
 {
     let mut line = [0; 522];
     let len = 10 + sheet.packet_len() * P::layout().width;

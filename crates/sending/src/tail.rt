@@ -19,7 +19,7 @@ pub(crate) fn print_tail<P: Printed>(
     out: &mut Vec<u8>,
 ) -> Result<Option<RunFault>, AllocError>
     requires { rows ≤ 1000000 }
-    ensures { IfOk result (λ fault. TailPrinted P.Symbol.kind P.Printed.form sheet rows winding.old (length packet.old) out.old.items out.new.items fault) }
+    ensures { IfOk result (λ fault. TailPrinted P.kind P.form sheet rows winding.old (length packet.old) out.old.items out.new.items fault) }
 {
     for i in 0..sheet.delay {
         match winding.tail(packet) {

@@ -78,9 +78,9 @@ fn has_letter(line: &[u8], letter: u8) -> bool
 
 // The symbols of fields that stand one after another, the first at the byte `at` of the line.
 fn read_fields<P: Printed>(fields: &[u8], at: u32, symbols: &mut [P]) -> Result<(), FieldFault>
-    requires fill { length fields.now ≡ length symbols.old * P.Printed.form.layout.width }
+    requires fill { length fields.now ≡ length symbols.old * P.form.layout.width }
     requires short { at + length fields.now < 2 ^ 32 }
-    ensures { symbols_read P.Printed.form at (length symbols.old) fields.now ≡ holding result symbols.new }
+    ensures { symbols_read P.form at (length symbols.old) fields.now ≡ holding result symbols.new }
 {
     let width = P::layout().width;
     let mut next = 0;
@@ -97,9 +97,9 @@ fn read_fields<P: Printed>(fields: &[u8], at: u32, symbols: &mut [P]) -> Result<
 
 // Whether so many fields, the first at the byte `at` of the line, hold symbols.
 fn check_fields<P: Printed>(fields: &[u8], at: u32, count: usize) -> Result<(), FieldFault>
-    requires fill { length fields.now ≡ count * P.Printed.form.layout.width }
+    requires fill { length fields.now ≡ count * P.form.layout.width }
     requires short { at + length fields.now < 2 ^ 32 }
-    ensures { result ≡ told (symbols_read P.Printed.form at count fields.now) }
+    ensures { result ≡ told (symbols_read P.form at count fields.now) }
 {
     let width = P::layout().width;
     let mut next = 0;
@@ -124,8 +124,8 @@ fn read_symbols<P: Printed>(
     place: &mut [P],
 ) -> Result<(), LineFault>
     requires { count ≤ 64 }
-    ensures answer { result ≡ told (fitting misfit (length place.old) (symbols_of P.Printed.form letter count next line.now)) }
-    ensures place { place.new ≡ symbols_or place.old (fitting misfit (length place.old) (symbols_of P.Printed.form letter count next line.now)) }
+    ensures answer { result ≡ told (fitting misfit (length place.old) (symbols_of P.form letter count next line.now)) }
+    ensures place { place.new ≡ symbols_or place.old (fitting misfit (length place.old) (symbols_of P.form letter count next line.now)) }
 {
     if !has_letter(line, letter) {
         return Err(LineFault::Letter);
@@ -153,9 +153,9 @@ pub fn read_row<P: Printed>(
     next: u32,
     place: &mut [P],
 ) -> Result<(), LineFault>
-    ensures answer { result ≡ told (row_into P.Printed.form sheet next (length place.old) line.now) }
-    ensures place { place.new ≡ symbols_or place.old (row_into P.Printed.form sheet next (length place.old) line.now) }
-    ensures inverse { RowInverse P.Printed.form sheet }
+    ensures answer { result ≡ told (row_into P.form sheet next (length place.old) line.now) }
+    ensures place { place.new ≡ symbols_or place.old (row_into P.form sheet next (length place.old) line.now) }
+    ensures inverse { RowInverse P.form sheet }
 {
     read_symbols(
         line,
@@ -174,9 +174,9 @@ pub fn read_packet<P: Printed>(
     next: u32,
     place: &mut [P],
 ) -> Result<(), LineFault>
-    ensures answer { result ≡ told (packet_into P.Printed.form sheet next (length place.old) line.now) }
-    ensures place { place.new ≡ symbols_or place.old (packet_into P.Printed.form sheet next (length place.old) line.now) }
-    ensures inverse { PacketInverse P.Printed.form sheet }
+    ensures answer { result ≡ told (packet_into P.form sheet next (length place.old) line.now) }
+    ensures place { place.new ≡ symbols_or place.old (packet_into P.form sheet next (length place.old) line.now) }
+    ensures inverse { PacketInverse P.form sheet }
 {
     read_symbols(
         line,

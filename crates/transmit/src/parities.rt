@@ -26,7 +26,7 @@ fn add_block<S: Symbol>(
     requires whole { first % sheet.parity ≡ 0 }
     requires lag { lag ≡ (1 + first / sheet.parity) * sheet.burst }
     requires place { length place.old ≡ sheet.parity }
-    ensures { place.old ≡ sums kind sheet (kept kind sheet slots line.now) slots first → place.new ≡ sums kind sheet (kept kind sheet slots line.now) slots (min (first + sheet.parity) sheet.row) }
+    ensures { place.old ≡ sums S.kind sheet (kept S.kind sheet slots line.now) slots first → place.new ≡ sums S.kind sheet (kept S.kind sheet slots line.now) slots (min (first + sheet.parity) sheet.row) }
 {
     if slots < lag {
         return;
@@ -45,7 +45,7 @@ pub(crate) fn write_parities<S: Symbol>(
     place: &mut [S],
 )
     requires { length place.old ≡ sheet.parity }
-    ensures { place.new ≡ sums kind sheet (kept kind sheet slots line.now) slots sheet.row }
+    ensures { place.new ≡ sums S.kind sheet (kept S.kind sheet slots line.now) slots sheet.row }
 {
     clear(place);
     let mut first = 0;

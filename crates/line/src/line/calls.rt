@@ -15,7 +15,7 @@ fn fit(places: usize, window: usize) -> usize
 
 // The functions below work on the first `places` places of a window, or on all of them where it is shorter.
 fn clear_front<S: Symbol>(window: &mut [S], places: usize)
-    ensures front { take places window.new ≡ replicate (length (take places window.old)) kind.zero }
+    ensures front { take places window.new ≡ replicate (length (take places window.old)) S.kind.zero }
     ensures past { drop places window.new ≡ drop places window.old }
 {
     let end = places.min(window.len());
@@ -39,7 +39,7 @@ fn enter_front<S: Symbol>(window: &mut [S], places: usize, head: usize, symbols:
 }
 
 fn zeros_front<S: Symbol>(window: &mut [S], places: usize, head: usize, count: usize) -> usize
-    ensures front { held result (take places window.new) ≡ entered (replicate count kind.zero) (held head (take places window.old)) }
+    ensures front { held result (take places window.new) ≡ entered (replicate count S.kind.zero) (held head (take places window.old)) }
     ensures past { drop places window.new ≡ drop places window.old }
 {
     let end = places.min(window.len());
@@ -54,14 +54,14 @@ fn back_front<S: Symbol>(window: &[S], places: usize, head: usize, steps: usize)
 }
 
 fn copy_front<S: Symbol>(window: &[S], places: usize, head: usize, steps: usize, place: &mut [S])
-    ensures { place.new ≡ stretch kind.zero (held head (take places window.now)) steps (length place.old) }
+    ensures { place.new ≡ stretch S.kind.zero (held head (take places window.now)) steps (length place.old) }
 {
     let end = places.min(window.len());
     copy_back(&window[0..end], head, steps, place);
 }
 
 fn add_front<S: Symbol>(window: &[S], places: usize, head: usize, steps: usize, place: &mut [S])
-    ensures { place.new ≡ added kind (held head (take places window.now)) steps place.old }
+    ensures { place.new ≡ added S.kind (held head (take places window.now)) steps place.old }
 {
     let end = places.min(window.len());
     add_back(&window[0..end], head, steps, place);
@@ -70,7 +70,7 @@ fn add_front<S: Symbol>(window: &[S], places: usize, head: usize, steps: usize, 
 impl<'w, S: Symbol> SymbolLine<'w, S> {
     // A line over a whole window, which reads as zeros.
     pub fn new(window: &'w mut [S]) -> SymbolLine<'w, S>
-        ensures held { contents result ≡ replicate (length window.old) kind.zero }
+        ensures held { contents result ≡ replicate (length window.old) S.kind.zero }
         ensures same { result.window.ghost_name ≡ window.entry.ghost_name }
     {
         let places = window.len();
@@ -80,7 +80,7 @@ impl<'w, S: Symbol> SymbolLine<'w, S> {
     // A line over the first `places` places of a window, or over none where it is shorter. What lies past them stays.
     pub fn over(window: &'w mut [S], places: usize) -> SymbolLine<'w, S>
         ensures places { result.places ≡ fitting places (length window.old) }
-        ensures held { contents result ≡ replicate (fitting places (length window.old)) kind.zero }
+        ensures held { contents result ≡ replicate (fitting places (length window.old)) S.kind.zero }
         ensures past { beyond result ≡ drop (fitting places (length window.old)) window.old }
         ensures long { length result.window.now ≡ length window.old }
         ensures same { result.window.ghost_name ≡ window.entry.ghost_name }
@@ -123,7 +123,7 @@ impl<'w, S: Symbol> SymbolLine<'w, S> {
 
     // So many zeros go in.
     pub fn push_zeros(&mut self, count: usize)
-        ensures held { contents self.new ≡ entered (replicate count kind.zero) (contents self.old) }
+        ensures held { contents self.new ≡ entered (replicate count S.kind.zero) (contents self.old) }
         ensures kept { Stays self.old self.new }
     {
         let places = self.places;
@@ -140,14 +140,14 @@ impl<'w, S: Symbol> SymbolLine<'w, S> {
 
     // Writes the symbols that begin `steps` back into a place, in the order in which they went in.
     pub fn copy_back(&self, steps: usize, place: &mut [S])
-        ensures { place.new ≡ stretch kind.zero (contents self.now) steps (length place.old) }
+        ensures { place.new ≡ stretch S.kind.zero (contents self.now) steps (length place.old) }
     {
         copy_front(self.window, self.places, self.head, steps, place);
     }
 
     // Adds those symbols to what a place holds.
     pub fn add_back(&self, steps: usize, place: &mut [S])
-        ensures { place.new ≡ added kind (contents self.now) steps place.old }
+        ensures { place.new ≡ added S.kind (contents self.now) steps place.old }
     {
         add_front(self.window, self.places, self.head, steps, place);
     }

@@ -16,9 +16,9 @@ impl<'s, 'r, S: Symbol> Ends<'s, 'r, S> {
     pub fn new(sheet: Sheet, near: &'s mut [S], far: &'r mut [S]) -> Ends<'s, 'r, S>
         ensures sender { SenderMade sheet near.old result.sender }
         ensures receiver { ReceiverMade sheet far.old result.receiver }
-        ensures sends { sending.Lawful kind sheet near.old result.sender }
-        ensures receives { receiving.Lawful kind sheet far.old result.receiver }
-        ensures meet { Meet kind sheet result.sender }
+        ensures sends { sending.Lawful S.kind sheet near.old result.sender }
+        ensures receives { receiving.Lawful S.kind sheet far.old result.receiver }
+        ensures meet { Meet S.kind sheet result.sender }
     {
         Ends {
             sender: Sender::new(sheet, near),

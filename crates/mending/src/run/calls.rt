@@ -23,7 +23,7 @@ impl<'w, P: Printed> MendRun<'w, P> {
         row: Vec<P>,
         marks: Vec<Mark>,
     ) -> MendRun<'w, P>
-        ensures { NewRun P.Symbol.kind P.Printed.form header.sheet (length window.old) (length packet.items) (length row.items) (length marks.items) result }
+        ensures { NewRun P.kind P.form header.sheet (length window.old) (length packet.items) (length row.items) (length marks.items) result }
     {
         MendRun {
             sheet: header.sheet,
@@ -38,7 +38,7 @@ impl<'w, P: Printed> MendRun<'w, P> {
 
     // The lines have ended: prints the E line, unless a fault has stopped the run. Answers the fault that stopped it, if one did.
     pub fn end(self, out: &mut Vec<u8>) -> Result<Option<RunFault>, AllocError>
-        ensures { IfOk result (λ fault. Ended P.Symbol.kind P.Printed.form self.entry out.old.items out.new.items fault) }
+        ensures { IfOk result (λ fault. Ended P.kind P.form self.entry out.old.items out.new.items fault) }
     {
         match self.reader.standing() {
             Standing::InRun { header: _, next: _ } => {
@@ -56,7 +56,7 @@ impl<'w, P: Printed> MendRun<'w, P> {
         answer: Result<Option<Due>, SlotRefusal>,
         out: &mut Vec<u8>,
     ) -> Result<(), AllocError>
-        ensures { OnOk result (AnswerPrinted P.Printed.form self.old self.new out.old.items out.new.items answer) }
+        ensures { OnOk result (AnswerPrinted P.form self.old self.new out.old.items out.new.items answer) }
     {
         match answer {
             Ok(None) => {}
@@ -77,7 +77,7 @@ impl<'w, P: Printed> MendRun<'w, P> {
 
     // Takes the slot whose packet was read, and prints the row that falls due with it.
     fn take_arrived(&mut self, out: &mut Vec<u8>) -> Result<(), AllocError>
-        ensures { OnOk result (SlotTaken P.Symbol.kind P.Printed.form self.old self.new (Some self.old.packet.items) out.old.items out.new.items) }
+        ensures { OnOk result (SlotTaken P.kind P.form self.old self.new (Some self.old.packet.items) out.old.items out.new.items) }
     {
         let packet = replace(&mut self.packet, Vec::new(self.heap));
         let mut row = replace(&mut self.row, Vec::new(self.heap));
@@ -96,7 +96,7 @@ impl<'w, P: Printed> MendRun<'w, P> {
 
     // Takes a slot that was missed, and prints the row that falls due with it.
     fn take_missed(&mut self, out: &mut Vec<u8>) -> Result<(), AllocError>
-        ensures { OnOk result (SlotTaken P.Symbol.kind P.Printed.form self.old self.new None out.old.items out.new.items) }
+        ensures { OnOk result (SlotTaken P.kind P.form self.old self.new None out.old.items out.new.items) }
     {
         let mut row = replace(&mut self.row, Vec::new(self.heap));
         let mut marks = replace(&mut self.marks, Vec::new(self.heap));
@@ -111,7 +111,7 @@ impl<'w, P: Printed> MendRun<'w, P> {
 }
 
 impl<'w, P: Printed> LineRun for MendRun<'w, P> {
-    ghost rest = { rest_of P.Symbol.kind P.Printed.form };
+    ghost rest = { rest_of P.kind P.form };
 
     ghost sound = { Sound };
 

@@ -27,7 +27,7 @@ impl<'w, S: Symbol> Receiver<'w, S> {
     pub fn new(sheet: Sheet, window: &'w mut [S]) -> Receiver<'w, S>
         ensures made { ReceiverMade sheet window.old result }
         ensures same { result.line.window.ghost_name ≡ window.entry.ghost_name }
-        ensures law { Lawful kind sheet window.old result }
+        ensures law { Lawful S.kind sheet window.old result }
     {
         Receiver {
             sheet,
@@ -56,7 +56,7 @@ impl<'w, S: Symbol> Receiver<'w, S> {
         row: &mut [S],
         marks: &mut [Mark],
     ) -> Result<Option<Due>, SlotRefusal>
-        ensures { SlotCall kind self.old self.new (Some packet.now) (replied row.old row.new marks.old marks.new result) }
+        ensures { SlotCall S.kind self.old self.new (Some packet.now) (replied row.old row.new marks.old marks.new result) }
     {
         let unfit = packet.len() != self.sheet.packet_len();
         if let Some(refusal) = self.refusal(unfit, row.len(), marks.len()) {
@@ -70,7 +70,7 @@ impl<'w, S: Symbol> Receiver<'w, S> {
 
     // The next slot was missed. The row that falls due with it goes into the places.
     pub fn missed(&mut self, row: &mut [S], marks: &mut [Mark]) -> Result<Option<Due>, SlotRefusal>
-        ensures { SlotCall kind self.old self.new None (replied row.old row.new marks.old marks.new result) }
+        ensures { SlotCall S.kind self.old self.new None (replied row.old row.new marks.old marks.new result) }
     {
         if let Some(refusal) = self.refusal(false, row.len(), marks.len()) {
             return Err(refusal);
@@ -104,7 +104,7 @@ impl<'w, S: Symbol> Receiver<'w, S> {
         requires few { self.old.counters.slots < 1000000 }
         requires symbols { length row.old ≡ self.old.sheet.row }
         requires marks { length marks.old ≡ self.old.sheet.row }
-        ensures { HandsOut kind self.old self.new row.old row.new marks.old marks.new result }
+        ensures { HandsOut S.kind self.old self.new row.old row.new marks.old marks.new result }
     {
         let slot = self.counters.slots;
         let wait = self.sheet.delay;

@@ -28,7 +28,7 @@ impl<'w, S: Symbol> Receiver<'w, S> {
         requires packet { length packet.now ≡ n self.old.sheet }
         requires symbols { length row.old ≡ self.old.sheet.row }
         requires marks { length marks.old ≡ self.old.sheet.row }
-        ensures { SlotCall kind self.old self.new (arrival state packet.now) (replied row.old row.new marks.old marks.new (Ok result)) }
+        ensures { SlotCall S.kind self.old self.new (arrival state packet.now) (replied row.old row.new marks.old marks.new (Ok result)) }
     {
         let answer = match state {
             SlotState::Arrived => self.arrived(packet, row, marks),
@@ -49,7 +49,7 @@ impl<'w, S: Symbol> Receiver<'w, S> {
         rows: &mut [S],
         marks: &mut [Mark],
     ) -> Result<u32, SlotRefusal>
-        ensures { SlotsCall kind self.old self.new (slots_of states.now packets.now rows.old rows.new marks.old marks.new) result }
+        ensures { SlotsCall S.kind self.old self.new (slots_of states.now packets.now rows.old rows.new marks.old marks.new) result }
     {
         if let Some(refusal) = self.slots_refusal(
             states.len(),

@@ -27,7 +27,7 @@ fn mark_all(places: &mut [Mark], mark: Mark)
 
 // A symbol by the outlook for it: what is left of the parity, or zero.
 fn settle<S: Symbol>(outlook: Mark, parity: S, beside: S) -> S
-    ensures { result ≡ settled kind outlook parity beside }
+    ensures { result ≡ settled S.kind outlook parity beside }
 {
     match outlook {
         Mark::Mended => parity.difference(beside),
@@ -37,7 +37,7 @@ fn settle<S: Symbol>(outlook: Mark, parity: S, beside: S) -> S
 
 // The symbol that went into a line so many symbols ago, and zero where there is none.
 fn back_or_zero<S: Symbol>(line: &SymbolLine<'_, S>, steps: usize) -> S
-    ensures { result ≡ symbol_back kind.zero (contents line.now) steps }
+    ensures { result ≡ symbol_back S.kind.zero (contents line.now) steps }
 {
     match line.back(steps) {
         Some(symbol) => symbol,
@@ -53,7 +53,7 @@ fn settle_all<S: Symbol>(
     places: &mut [S],
 )
     requires { length outlooks.now ≡ length places.old }
-    ensures { places.new ≡ map (λ i. settled kind (slice_index_or outlooks.now i Mark.Arrived) (symbol_back kind.zero (contents line.now) (steps - i)) (slice_index_or places.old i kind.zero)) (range_with_len 0 (length places.old)) }
+    ensures { places.new ≡ map (λ i. settled S.kind (slice_index_or outlooks.now i Mark.Arrived) (symbol_back S.kind.zero (contents line.now) (steps - i)) (slice_index_or places.old i S.kind.zero)) (range_with_len 0 (length places.old)) }
 {
     for i in 0..places.len() {
         let parity = back_or_zero(line, steps.saturating_sub(i));
@@ -65,7 +65,7 @@ impl<'w, S: Symbol> Receiver<'w, S> {
     // Whether a slot is remembered, and arrived.
     fn heard(&self, slot: u32) -> bool
         requires { slot < 2000000 }
-        ensures { result ≡ heard (memory kind self.now) slot }
+        ensures { result ≡ heard (memory S.kind self.now) slot }
     {
         let slots = self.counters.slots;
         if slots <= slot || slot + 2 * self.sheet.delay < slots {
@@ -99,10 +99,10 @@ impl<'w, S: Symbol> Receiver<'w, S> {
         requires other { (other < self.now.sheet.row) × (other % self.now.sheet.parity ≡ 0) }
         requires lag { lag ≡ (1 + other / self.now.sheet.parity) * self.now.sheet.burst }
         requires taken { carrier < self.now.counters.slots }
-        requires sums { sums.old ≡ sums_beside kind self.now.sheet (memory kind self.now) carrier first other }
-        requires outlooks { outlooks.old ≡ known_beside self.now.sheet (heard (memory kind self.now)) carrier first other }
-        ensures sums { sums.new ≡ sums_beside kind self.now.sheet (memory kind self.now) carrier first (min (other + self.now.sheet.parity) self.now.sheet.row) }
-        ensures outlooks { outlooks.new ≡ known_beside self.now.sheet (heard (memory kind self.now)) carrier first (min (other + self.now.sheet.parity) self.now.sheet.row) }
+        requires sums { sums.old ≡ sums_beside S.kind self.now.sheet (memory S.kind self.now) carrier first other }
+        requires outlooks { outlooks.old ≡ known_beside self.now.sheet (heard (memory S.kind self.now)) carrier first other }
+        ensures sums { sums.new ≡ sums_beside S.kind self.now.sheet (memory S.kind self.now) carrier first (min (other + self.now.sheet.parity) self.now.sheet.row) }
+        ensures outlooks { outlooks.new ≡ known_beside self.now.sheet (heard (memory S.kind self.now)) carrier first (min (other + self.now.sheet.parity) self.now.sheet.row) }
     {
         if other == first || carrier < lag {
             return;
@@ -123,8 +123,8 @@ impl<'w, S: Symbol> Receiver<'w, S> {
         requires taken { carrier < self.now.counters.slots }
         requires symbols { length sums.old ≡ size self.now.sheet first }
         requires marks { length outlooks.old ≡ size self.now.sheet first }
-        ensures sums { sums.new ≡ sums_beside kind self.now.sheet (memory kind self.now) carrier first self.now.sheet.row }
-        ensures outlooks { outlooks.new ≡ known_beside self.now.sheet (heard (memory kind self.now)) carrier first self.now.sheet.row }
+        ensures sums { sums.new ≡ sums_beside S.kind self.now.sheet (memory S.kind self.now) carrier first self.now.sheet.row }
+        ensures outlooks { outlooks.new ≡ known_beside self.now.sheet (heard (memory S.kind self.now)) carrier first self.now.sheet.row }
     {
         let sheet = self.sheet;
         clear(sums);
@@ -143,11 +143,11 @@ impl<'w, S: Symbol> Receiver<'w, S> {
         requires block { (first < self.now.sheet.row) × (first % self.now.sheet.parity ≡ 0) }
         requires lag { lag ≡ (1 + first / self.now.sheet.parity) * self.now.sheet.burst }
         requires taken { row + lag < self.now.counters.slots }
-        requires missed { heard (memory kind self.now) row ≡ false }
+        requires missed { heard (memory S.kind self.now) row ≡ false }
         requires symbols { length symbols.old ≡ size self.now.sheet first }
         requires marks { length marks.old ≡ size self.now.sheet first }
-        ensures symbols { symbols.new ≡ of_block self.now.sheet first (given kind self.now.sheet (memory kind self.now) row) }
-        ensures marks { marks.new ≡ of_block self.now.sheet first (mark self.now.sheet (heard (memory kind self.now)) row) }
+        ensures symbols { symbols.new ≡ of_block self.now.sheet first (given S.kind self.now.sheet (memory S.kind self.now) row) }
+        ensures marks { marks.new ≡ of_block self.now.sheet first (mark self.now.sheet (heard (memory S.kind self.now)) row) }
     {
         let carrier = row + lag;
         if !self.heard(carrier) {
@@ -164,11 +164,11 @@ impl<'w, S: Symbol> Receiver<'w, S> {
     // Mends what can be mended of a missed row.
     fn mend(&self, row: u32, symbols: &mut [S], marks: &mut [Mark])
         requires taken { row + self.now.sheet.delay < self.now.counters.slots }
-        requires missed { heard (memory kind self.now) row ≡ false }
+        requires missed { heard (memory S.kind self.now) row ≡ false }
         requires symbols { length symbols.old ≡ self.now.sheet.row }
         requires marks { length marks.old ≡ self.now.sheet.row }
-        ensures symbols { symbols.new ≡ row_of kind self.now.sheet (memory kind self.now) row }
-        ensures marks { marks.new ≡ marks_of self.now.sheet (heard (memory kind self.now)) row }
+        ensures symbols { symbols.new ≡ row_of S.kind self.now.sheet (memory S.kind self.now) row }
+        ensures marks { marks.new ≡ marks_of self.now.sheet (heard (memory S.kind self.now)) row }
     {
         let sheet = self.sheet;
         let mut first = 0;
@@ -193,9 +193,9 @@ impl<'w, S: Symbol> Receiver<'w, S> {
         requires taken { row + self.now.sheet.delay < self.now.counters.slots }
         requires symbols { length symbols.old ≡ self.now.sheet.row }
         requires marks { length marks.old ≡ self.now.sheet.row }
-        ensures symbols { symbols.new ≡ row_of kind self.now.sheet (memory kind self.now) row }
-        ensures marks { marks.new ≡ marks_of self.now.sheet (heard (memory kind self.now)) row }
-        ensures verdict { result ≡ verdict (marks_of self.now.sheet (heard (memory kind self.now)) row) }
+        ensures symbols { symbols.new ≡ row_of S.kind self.now.sheet (memory S.kind self.now) row }
+        ensures marks { marks.new ≡ marks_of self.now.sheet (heard (memory S.kind self.now)) row }
+        ensures verdict { result ≡ verdict (marks_of self.now.sheet (heard (memory S.kind self.now)) row) }
     {
         if self.heard(row) {
             self.line.copy_back(self.steps_to(row, 0), symbols);

@@ -23,7 +23,7 @@ impl<'w, P: Printed> SendRun<'w, P> {
         row: Vec<P>,
         packet: Vec<P>,
     ) -> SendRun<'w, P>
-        ensures { NewRun P.Symbol.kind P.Printed.form header.sheet (length window.old) (length row.items) (length packet.items) result }
+        ensures { NewRun P.kind P.form header.sheet (length window.old) (length row.items) (length packet.items) result }
     {
         SendRun {
             sheet: header.sheet,
@@ -37,7 +37,7 @@ impl<'w, P: Printed> SendRun<'w, P> {
 
     // The lines have ended: prints the tail, unless a fault has stopped the run. Answers the fault that ended it, if one did.
     pub fn end(self, out: &mut Vec<u8>) -> Result<Option<RunFault>, AllocError>
-        ensures { IfOk result (λ fault. Ended P.Symbol.kind P.Printed.form self.entry out.old.items out.new.items fault) }
+        ensures { IfOk result (λ fault. Ended P.kind P.form self.entry out.old.items out.new.items fault) }
     {
         let SendRun {
             sheet,
@@ -61,7 +61,7 @@ impl<'w, P: Printed> SendRun<'w, P> {
 
     // Puts the row that was read, and prints its packet.
     fn put_row(&mut self, slot: u32, out: &mut Vec<u8>) -> Result<(), AllocError>
-        ensures { OnOk result (RowPut P.Symbol.kind P.Printed.form self.old self.new slot out.old.items out.new.items) }
+        ensures { OnOk result (RowPut P.kind P.form self.old self.new slot out.old.items out.new.items) }
     {
         let row = replace(&mut self.row, Vec::new(self.heap));
         let mut packet = replace(&mut self.packet, Vec::new(self.heap));
@@ -80,7 +80,7 @@ impl<'w, P: Printed> SendRun<'w, P> {
 }
 
 impl<'w, P: Printed> LineRun for SendRun<'w, P> {
-    ghost rest = { rest_of P.Symbol.kind P.Printed.form };
+    ghost rest = { rest_of P.kind P.form };
 
     ghost sound = { Sound };
 

@@ -77,7 +77,7 @@ impl<'w, S: Symbol> Sender<'w, S> {
     pub fn new(sheet: Sheet, window: &'w mut [S]) -> Sender<'w, S>
         ensures made { SenderMade sheet window.old result }
         ensures same { result.line.window.ghost_name ≡ window.entry.ghost_name }
-        ensures law { Lawful kind sheet window.old result }
+        ensures law { Lawful S.kind sheet window.old result }
     {
         Sender {
             sheet,
@@ -88,7 +88,7 @@ impl<'w, S: Symbol> Sender<'w, S> {
 
     // Puts the next row, and writes the packet of its slot.
     pub fn put(&mut self, row: &[S], place: &mut [S]) -> Result<(), PutRefusal>
-        ensures { PutCall kind self.old self.new (putting row.now place.old place.new result) }
+        ensures { PutCall S.kind self.old self.new (putting row.now place.old place.new result) }
     {
         let sheet = self.sheet;
         let slots = self.count.rows;
@@ -106,7 +106,7 @@ impl<'w, S: Symbol> Sender<'w, S> {
 
     // No more rows: from here on only tail packets.
     pub fn wind_down(self) -> WindingSender<'w, S>
-        ensures { WindCall kind self.entry result }
+        ensures { WindCall S.kind self.entry result }
     {
         let Sender { sheet, count, line } = self;
         WindingSender {
@@ -120,7 +120,7 @@ impl<'w, S: Symbol> Sender<'w, S> {
 impl<'w, S: Symbol> WindingSender<'w, S> {
     // Writes the next tail packet, whose row is zeros.
     pub fn tail(&mut self, place: &mut [S]) -> Result<(), TailRefusal>
-        ensures { TailCall kind self.old self.new (drawing place.old place.new result) }
+        ensures { TailCall S.kind self.old self.new (drawing place.old place.new result) }
     {
         let sheet = self.sheet;
         let slots = self.count.rows + self.count.tails;

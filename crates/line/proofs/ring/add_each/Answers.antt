@@ -14,7 +14,7 @@ loop-i-preserved g c =
     let was : c.index-place-i.result ≡ get_or old i K.zero =
     filled_read _ old i c.index-place-i.result K.zero place within c.loop-i.invariant c.index-place-i.is in
     filled_more _ old i c.sum.result place (omega arith) c.loop-i.invariant
-    (c.sum.ensures ∙ ap₂ K.sum (c.back-or-zero.ensures ∙ ap (symbol_back K.zero xs) c.saturating-sub.ensures) was)
+    (c.sum.ensures ∙ ap₂ K.sum (c.back_or_zero.ensures ∙ ap (symbol_back K.zero xs) c.saturating_sub.ensures) was)
 
 pub returns : goal.returns
 returns g c = filled_all _ c.args.place.now c.loop-i.i c.loop-i.place (omega arith) c.loop-i.invariant

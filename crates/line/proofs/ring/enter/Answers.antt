@@ -20,8 +20,8 @@ loop-done-preserved g c =
     let from : Start (length ring) c.loop-done.head start = subst (λ (n : ℕ). Start n c.loop-done.head start) (sym long) c.oldest-start.ensures in
     let room : start + size ≤ length ring = omega (arith, c.min-size.ensures, start_within _ _ _ from) in (
       fits,
-      piece_more ring c.copy-from-slice.new.self c.args.symbols.now (held c.args.from c.args.ring.now)
-          c.loop-done.head start size c.loop-done.done from c.copy-from-slice.ensures.after fits room c.loop-done.invariant.1,
+      piece_more ring c.copy_from_slice.new.self c.args.symbols.now (held c.args.from c.args.ring.now)
+          c.loop-done.head start size c.loop-done.done from c.copy_from_slice.ensures.after fits room c.loop-done.invariant.1,
     )
 
 pub returns : goal.returns

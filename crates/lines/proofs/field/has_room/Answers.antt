@@ -4,8 +4,8 @@ use Rattle.std.proofs.lemmas.Bool.{lt-ltb}
 use Rattle.lines.proofs.field.has_room.Goals as goal
 
 -- ten columns have room for any number of 32 bits
-pub returns-in-default : goal.returns-in-default
-returns-in-default c =
+pub returns-in_default : goal.returns-in_default
+returns-in_default c =
     let w : 10 ≤ c.args.width = omega arith in
     let p : 10 ^ 10 ≤ 10 ^ c.args.width = pow-le-pow_right (omega arith) w in
     let q : c.args.number < 10 ^ 10 = omega arith in

@@ -6,8 +6,8 @@ use Rattle.lines.proofs.Pieces.{due_more}
 use Rattle.lines.proofs.Rooms.{times_more, field_within}
 use Rattle.lines.proofs.put.put_due_symbols.Goals as goal
 
-pub put-due-symbol-next-requires : goal.put-due-symbol-next-requires
-put-due-symbol-next-requires g c =
+pub put_due_symbol-next-requires : goal.put_due_symbol-next-requires
+put_due_symbol-next-requires g c =
     let F = g.P.Printed.form in
     let k : c.layout-width.result.width ≡ g.P.Printed.form.layout.width = ap (λ x. x.width) c.layout-width.ensures in
     let f = field_within c.loop-i.i (length c.args.row.now) F.layout.width c.loop-i-test.true in
@@ -19,10 +19,10 @@ loop-i-preserved g c =
     let k : c.layout-width.result.width ≡ g.P.Printed.form.layout.width = ap (λ x. x.width) c.layout-width.ensures in
     let t = times_more c.loop-i.i F.layout.width in (
       omega arith,
-      due_more F (take c.args.at c.args.place.now) c.loop-i.place c.put-due-symbol-next.new.place
-          c.loop-i.i c.loop-i.next c.put-due-symbol-next.result c.index-row-i.result _ Arrived
+      due_more F (take c.args.at c.args.place.now) c.loop-i.place c.put_due_symbol-next.new.place
+          c.loop-i.i c.loop-i.next c.put_due_symbol-next.result c.index-row-i.result _ Arrived
           c.args.row.now c.args.marks.now c.loop-i-test.true c.requires.paired c.index-row-i.is refl
-          c.put-due-symbol-next.ensures.after c.loop-i.invariant.1,
+          c.put_due_symbol-next.ensures.after c.loop-i.invariant.1,
     )
 
 pub returns : goal.returns

@@ -7,5 +7,5 @@ pub returns : goal.returns
 returns c = record {
   next = refl;
   after = part_put lost_field c.args.at c.args.width c.args.place.now
-      c.put-lost-field.new.part c.requires.within c.put-lost-field.ensures c.put-lost-field.auto.part;
+      c.put_lost_field.new.part c.requires.within c.put_lost_field.ensures c.put_lost_field.auto.part;
 }

@@ -7,5 +7,5 @@ pub returns : goal.returns
 returns c = record {
   next = refl;
   after = part_put (λ w. field w c.args.number) c.args.at c.args.width c.args.place.now
-      c.put-field.new.place c.requires.within c.put-field.ensures c.put-field.auto.place;
+      c.put_field.new.place c.requires.within c.put_field.ensures c.put_field.auto.place;
 }

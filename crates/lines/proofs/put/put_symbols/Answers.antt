@@ -5,8 +5,8 @@ use Rattle.lines.proofs.Pieces.{symbol_more}
 use Rattle.lines.proofs.Rooms.{wide, room, times_more, field_within}
 use Rattle.lines.proofs.put.put_symbols.Goals as goal
 
-pub put-number-next-requires : goal.put-number-next-requires
-put-number-next-requires g c =
+pub put_number-next-requires : goal.put_number-next-requires
+put_number-next-requires g c =
     let F = g.P.Printed.form in
     let w = wide g.P.Symbol.kind g.P.Printed.form in
     let r = room g.P.Printed.form c.symbol-item.result in
@@ -21,10 +21,10 @@ loop-symbol-preserved g c =
     let k : c.layout-width.result.width ≡ g.P.Printed.form.layout.width = ap (λ x. x.width) c.layout-width.ensures in
     let t = times_more c.loop-symbol.symbol-index F.layout.width in (
       omega arith,
-      symbol_more F (take c.args.at c.args.place.now) c.loop-symbol.place c.put-number-next.new.place
-          c.loop-symbol.symbol-index c.loop-symbol.next c.put-number-next.result c.layout-width.result.width
+      symbol_more F (take c.args.at c.args.place.now) c.loop-symbol.place c.put_number-next.new.place
+          c.loop-symbol.symbol-index c.loop-symbol.next c.put_number-next.result c.layout-width.result.width
           c.number.result c.symbol-item.result c.args.symbols.now c.loop-symbol-test.true c.symbol-item.is
-          k c.number.ensures c.put-number-next.ensures.after c.loop-symbol.invariant.1,
+          k c.number.ensures c.put_number-next.ensures.after c.loop-symbol.invariant.1,
     )
 
 pub returns : goal.returns

@@ -3,6 +3,6 @@ use Rattle.lines.proofs.writer.line_len.Goals as goal
 
 pub returns : goal.returns
 returns g c = record {
-  value = c.length-of.ensures;
+  value = c.length_of.ensures;
   lengths = lengths g.P.Symbol.kind g.P.Printed.form c.args.sheet;
 }

@@ -23,11 +23,11 @@ returns g c =
     let ks : length c.args.row.now * g.P.Printed.form.layout.width ≡ c.args.sheet.row * g.P.Printed.form.layout.width =
     ap (λ x. x * g.P.Printed.form.layout.width) lr in
     written (due_refused w count number (length row) (length marks) (length place)) (ended (due_line F number row marks))
-    place c.put-byte.new.place c.put-byte.result
+    place c.put_byte.new.place c.put_byte.result
     (no_refusal _ _ _ (le-ltb 999999 number (omega arith))
     (or_from _ _ (right count (length row) lr) (right count (length marks) lm))
     (right (10 + count * w) (length place) (omega arith)))
     (omega arith)
     (two_pieces (due_letter marks ∷ []) (field 8 number) (due_fields F row marks) _ _ _ _
-    (c.put-byte-next.ensures.after ∙ ap (λ x. x ∷ []) c.letter_of.ensures) c.put-number-next.ensures.after
-    c.put-due-symbols-next.ensures.after c.put-byte.ensures.after)
+    (c.put_byte-next.ensures.after ∙ ap (λ x. x ∷ []) c.letter_of.ensures) c.put_number-next.ensures.after
+    c.put_due_symbols-next.ensures.after c.put_byte.ensures.after)

@@ -9,13 +9,13 @@ pub returns : goal.returns
 returns c =
     let p = c.args.header.sheet in
     let kind = c.args.header.kind in
-    let front : take c.put-byte-next-2.result c.put-byte-next-2.new.place ≡ 72 ∷ (kind_letter c.args.header.kind ∷ []) =
-    more _ c.put-byte-next-2.ensures.after c.put-byte-next.ensures.after
+    let front : take c.put_byte-next-2.result c.put_byte-next-2.new.place ≡ 72 ∷ (kind_letter c.args.header.kind ∷ []) =
+    more _ c.put_byte-next-2.ensures.after c.put_byte-next.ensures.after
     ∙ ap (λ x. 72 ∷ (x ∷ [])) c.letter.ensures in
     written (header_refused (length c.args.place.now)) (ended (header_line kind p))
-    c.args.place.now c.put-byte.new.place c.put-byte.result
+    c.args.place.now c.put_byte.new.place c.put_byte.result
     (no_refusal false false _ refl refl (right 15 (length c.args.place.now) c.if-place-ne15.false))
     (omega arith)
     (three_pieces (72 ∷ (kind_letter kind ∷ [])) (field 4 p.burst) (field 4 p.row) (field 4 p.parity) _ _ _ _ _
-    front c.put-number-next.ensures.after c.put-number-next-2.ensures.after
-    c.put-number-next-3.ensures.after c.put-byte.ensures.after)
+    front c.put_number-next.ensures.after c.put_number-next-2.ensures.after
+    c.put_number-next-3.ensures.after c.put_byte.ensures.after)

@@ -10,9 +10,9 @@ pub returns : goal.returns
 returns c =
     let number = c.args.number in
     let pieces =
-    more (10 ∷ []) c.put-byte.ensures.after
-    (more (field 8 number) c.put-number-next.ensures.after c.put-byte-next.ensures.after) in
+    more (10 ∷ []) c.put_byte.ensures.after
+    (more (field 8 number) c.put_number-next.ensures.after c.put_byte-next.ensures.after) in
     written (missed_refused number (length c.args.place.now)) (ended (missed_line number))
-    c.args.place.now c.put-byte.new.place c.put-byte.result
+    c.args.place.now c.put_byte.new.place c.put_byte.result
     (no_refusal _ false _ (le-ltb 999999 number (omega arith)) refl (right 10 (length c.args.place.now) (omega arith)))
     (omega arith) pieces

@@ -13,12 +13,12 @@ returns c =
     let position = c.args.position in
     let place = c.args.place.now in
     written (fault_refused line refusal position (length place)) (ended (fault_line line refusal position))
-    place c.put-byte.new.place c.put-byte.result
+    place c.put_byte.new.place c.put_byte.result
     (no_refusal _ false _
     (or_from _ _ (le-ltb 99999999 line (omega arith))
     (or_from _ _ (le-ltb 9999 refusal (omega arith)) (le-ltb 9999 position (omega arith))))
     refl (right 18 (length place) (omega arith)))
     (omega arith)
     (three_pieces (88 ∷ []) (field 8 line) (field 4 refusal) (field 4 position) _ _ _ _ _
-    c.put-byte-next.ensures.after c.put-number-next.ensures.after c.put-number-next-2.ensures.after
-    c.put-number-next-3.ensures.after c.put-byte.ensures.after)
+    c.put_byte-next.ensures.after c.put_number-next.ensures.after c.put_number-next-2.ensures.after
+    c.put_number-next-3.ensures.after c.put_byte.ensures.after)

@@ -20,10 +20,10 @@ returns g c =
     let ks : length c.args.symbols.now * g.P.Printed.form.layout.width ≡ c.args.count * g.P.Printed.form.layout.width =
     ap (λ x. x * g.P.Printed.form.layout.width) c.if-symbols-count.false in
     written (symbols_refused w count number (length symbols) (length place)) (ended (symbols_line F c.args.letter number symbols))
-    place c.put-byte.new.place c.put-byte.result
+    place c.put_byte.new.place c.put_byte.result
     (no_refusal _ _ _ (le-ltb 999999 number (omega arith)) (right count (length symbols) (omega arith))
     (right (10 + count * w) (length place) (omega arith)))
     (omega arith)
     (two_pieces (c.args.letter ∷ []) (field 8 number) (symbol_fields F symbols) _ _ _ _
-    c.put-byte-next.ensures.after c.put-number-next.ensures.after
-    c.put-symbols-next.ensures.after c.put-byte.ensures.after)
+    c.put_byte-next.ensures.after c.put_number-next.ensures.after
+    c.put_symbols-next.ensures.after c.put_byte.ensures.after)

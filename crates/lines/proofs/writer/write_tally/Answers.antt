@@ -14,7 +14,7 @@ returns c =
     let lost = c.args.lost in
     let place = c.args.place.now in
     written (tally_refused slots whole mended lost (length place)) (ended (tally_line slots whole mended lost))
-    place c.put-byte.new.place c.put-byte.result
+    place c.put_byte.new.place c.put_byte.result
     (no_refusal _ false _
     (or_from _ _ (le-ltb 1000000 slots (omega arith))
     (or_from _ _ (le-ltb 1000000 whole (omega arith))
@@ -22,5 +22,5 @@ returns c =
     refl (right 34 (length place) (omega arith)))
     (omega arith)
     (four_pieces (69 ∷ []) (field 8 slots) (field 8 whole) (field 8 mended) (field 8 lost) _ _ _ _ _ _
-    c.put-byte-next.ensures.after c.put-number-next.ensures.after c.put-number-next-2.ensures.after
-    c.put-number-next-3.ensures.after c.put-number-next-4.ensures.after c.put-byte.ensures.after)
+    c.put_byte-next.ensures.after c.put_number-next.ensures.after c.put_number-next-2.ensures.after
+    c.put_number-next-3.ensures.after c.put_number-next-4.ensures.after c.put_byte.ensures.after)

@@ -1,8 +1,8 @@
 use Rattle.std.proofs.Common.{◌≡◌, ◌+◌, ◌*◌, ◌≤◌, ap, mul-le-mul, arith}
 use Rattle.mending.proofs.print.print_due.Goals as goal
 
-pub slice-bounds-line-end : goal.slice-bounds-line-end
-slice-bounds-line-end g c =
+pub slice_bounds-line-end : goal.slice_bounds-line-end
+slice_bounds-line-end g c =
     let small = g.P.Printed.form.width_small in
     let k : c.layout.result.width ≡ g.P.Printed.form.layout.width = ap (λ x. x.width) c.layout.ensures in
     let w : c.layout.result.width ≤ 8 = omega arith in

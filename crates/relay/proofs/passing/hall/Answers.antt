@@ -20,22 +20,22 @@ room text used len is = omega (arith, (cut (drop used text) len is).within, leng
 cut_off : (text : List ℕ) (used len : ℕ) → take (len - 0) (take (length text - used) (drop used text)) ≡ take len (drop used text)
 cut_off text used len = ap₂ take (let z : len - 0 ≡ len = omega arith in z) (take_rest text used)
 
-pub slice-bounds-pass-line-end : goal.slice-bounds-pass-line-end
-slice-bounds-pass-line-end c =
+pub slice_bounds-pass_line-end : goal.slice_bounds-pass_line-end
+slice_bounds-pass_line-end c =
     let e = left c.args.text.now c.loop-used.used (Some c.in-Some.len) c.in-Some.ensures in
     let r = room c.args.text.now c.loop-used.used c.in-Some.len e in
     let l : c.in-Some.len ≤ length (take (length c.args.text.now - c.loop-used.used) (drop c.loop-used.used c.args.text.now)) =
     omega (arith, ap length (take_rest c.args.text.now c.loop-used.used), length-drop c.loop-used.used c.args.text.now) in
     l
 
-pub overflow-add-used : goal.overflow-add-used
-overflow-add-used c =
+pub overflow_add-used : goal.overflow_add-used
+overflow_add-used c =
     let e = left c.args.text.now c.loop-used.used (Some c.in-Some.len) c.in-Some.ensures in
     let r = room c.args.text.now c.loop-used.used c.in-Some.len e in
     omega arith
 
-pub overflow-add-used-in-Some : goal.overflow-add-used-in-Some
-overflow-add-used-in-Some c =
+pub overflow_add-used-in-Some : goal.overflow_add-used-in-Some
+overflow_add-used-in-Some c =
     let e = left c.args.text.now c.loop-used.used (Some c.in-Some.len) c.in-Some.ensures in
     let r = room c.args.text.now c.loop-used.used c.in-Some.len e in
     omega arith
@@ -50,15 +50,15 @@ loop-used-preserved c =
       r,
       omega arith,
       line_passed (listed c.args.missed.now) text (take (len - 0) (take (length text - used) (drop used text))) used
-          c.loop-used.lines len (vec_items c.loop-used.out) (vec_items c.pass-line.new.out)
-          (hall (listed c.args.missed.now) text) e (cut_off text used len) c.in-ok-pass-line.ensures c.loop-used.invariant.2,
+          c.loop-used.lines len (vec_items c.loop-used.out) (vec_items c.pass_line.new.out)
+          (hall (listed c.args.missed.now) text) e (cut_off text used len) c.in_ok-pass_line.ensures c.loop-used.invariant.2,
     )
 
-pub returns-in-err-pass-line : goal.returns-in-err-pass-line
-returns-in-err-pass-line c = record { turns = search rules; relays = relays }
+pub returns-in_err-pass_line : goal.returns-in_err-pass_line
+returns-in_err-pass_line c = record { turns = search rules; relays = relays }
 
-pub returns-in-err-pass-line-2 : goal.returns-in-err-pass-line-2
-returns-in-err-pass-line-2 c = record { turns = search rules; relays = relays }
+pub returns-in_err-pass_line-2 : goal.returns-in_err-pass_line-2
+returns-in_err-pass_line-2 c = record { turns = search rules; relays = relays }
 
 pub returns-in-None : goal.returns-in-None
 returns-in-None c =
@@ -68,8 +68,8 @@ returns-in-None c =
     let some : 0 < length (drop c.loop-used.used c.args.text.now) = omega (arith, length-drop used text) in
     record {
       turns = last_passed (listed c.args.missed.now) (drop used text) (take (length text - used) (drop used text))
-          c.loop-used.lines (vec_items c.loop-used.out) (vec_items c.pass-line-in-None.new.out)
-          (hall (listed c.args.missed.now) text) e some (take_rest text used) c.in-ok-pass-line-2.ensures
+          c.loop-used.lines (vec_items c.loop-used.out) (vec_items c.pass_line-in-None.new.out)
+          (hall (listed c.args.missed.now) text) e some (take_rest text used) c.in_ok-pass_line-2.ensures
           c.loop-used.invariant.2;
       relays = relays;
     }

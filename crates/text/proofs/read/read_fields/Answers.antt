@@ -5,31 +5,31 @@ use Rattle.lines.proofs.Rooms.{field_within, times_more}
 use Rattle.text.proofs.Symbols.{refused, taken, all_read}
 use Rattle.text.proofs.read.read_fields.Goals as goal
 
-pub slice-bounds-field-end : goal.slice-bounds-field-end
-slice-bounds-field-end g c =
+pub slice_bounds-field-end : goal.slice_bounds-field-end
+slice_bounds-field-end g c =
     let k : c.layout-width.result.width ≡ g.P.Printed.form.layout.width = ap (λ x. x.width) c.layout-width.ensures in
     let f = field_within c.loop-i.i (length c.args.symbols.now) g.P.Printed.form.layout.width c.loop-i-test.true in
     omega arith
 
-pub overflow-cast-field : goal.overflow-cast-field
-overflow-cast-field g c =
+pub overflow_cast-field : goal.overflow_cast-field
+overflow_cast-field g c =
     let f = field_within c.loop-i.i (length c.args.symbols.now) g.P.Printed.form.layout.width c.loop-i-test.true in
     omega arith
 
-pub overflow-add-field-in-loop-i : goal.overflow-add-field-in-loop-i
-overflow-add-field-in-loop-i g c =
+pub overflow_add-field-in-loop-i : goal.overflow_add-field-in-loop-i
+overflow_add-field-in-loop-i g c =
     let f = field_within c.loop-i.i (length c.args.symbols.now) g.P.Printed.form.layout.width c.loop-i-test.true in
     omega arith
 
-pub returns-in-err-symbols : goal.returns-in-err-symbols
-returns-in-err-symbols g c =
+pub returns-in_err-symbols : goal.returns-in_err-symbols
+returns-in_err-symbols g c =
     let F = g.P.Printed.form in
     let k : c.layout-width.result.width ≡ g.P.Printed.form.layout.width = ap (λ x. x.width) c.layout-width.ensures in
     let p = err_from_is_err_and c.from-residual.result c.from-residual.ensures.1 in
     let h : c.loop-i.i < length c.loop-i.symbols = omega arith in
     let r = refused F c.args.at c.layout-width.result.width c.loop-i.next c.loop-i.i c.args.fields.now
-    c.loop-i.symbols c.read-symbol.result h k c.loop-i.invariant.1 c.read-symbol.ensures
-    c.in-err-symbols.field-0.0 c.in-err-symbols.was in
+    c.loop-i.symbols c.read_symbol.result h k c.loop-i.invariant.1 c.read_symbol.ensures
+    c.in_err-symbols.field-0.0 c.in_err-symbols.was in
     ap (λ x. symbols_read F c.args.at x c.args.fields.now) (sym c.loop-i.auto.symbols)
     ∙ (r ∙ (ap Err (sym p.2) ∙ ap (λ x. holding x c.loop-i.symbols) (sym p.1)))
 
@@ -41,8 +41,8 @@ loop-i-preserved g c =
     let h : c.loop-i.i < length c.loop-i.symbols = omega arith in (
       omega arith,
       taken F c.args.at c.layout-width.result.width c.loop-i.next c.loop-i.i c.args.fields.now
-          c.loop-i.symbols c.read-symbol.result h k c.loop-i.invariant.1 c.read-symbol.ensures
-          c.in-ok-symbols.field-0 c.in-ok-symbols.was,
+          c.loop-i.symbols c.read_symbol.result h k c.loop-i.invariant.1 c.read_symbol.ensures
+          c.in_ok-symbols.field-0 c.in_ok-symbols.was,
     )
 
 pub returns : goal.returns

@@ -22,7 +22,7 @@ loop-first-preserved g c =
     let below : min first p.row ≡ first = omega arith in (
       add-mod_right first p.parity ∙ c.loop-first.invariant.0,
       next_lag p first c.loop-first.lag c.loop-first.invariant.1,
-      c.add-block.ensures (c.loop-first.invariant.2 ∙ ap (sums K p (kept K p c.args.slots c.args.line.now) c.args.slots) below),
+      c.add_block.ensures (c.loop-first.invariant.2 ∙ ap (sums K p (kept K p c.args.slots c.args.line.now) c.args.slots) below),
     )
 
 pub returns : goal.returns

@@ -10,8 +10,8 @@ returns g c =
     let fits : places ≤ length w = subst (λ (n : ℕ). n ≤ length w) (sym c.fit-places.ensures) (fitting_within c.args.places (length w)) in
     record {
       places = c.fit-places.ensures;
-      held = held_zeros w c.clear-front.new.window places z fits c.clear-front.ensures.front ∙ ap (λ n. replicate n z) c.fit-places.ensures;
-      past = c.clear-front.ensures.past ∙ ap (λ n. drop n w) c.fit-places.ensures;
+      held = held_zeros w c.clear_front.new.window places z fits c.clear_front.ensures.front ∙ ap (λ n. replicate n z) c.fit-places.ensures;
+      past = c.clear_front.ensures.past ∙ ap (λ n. drop n w) c.fit-places.ensures;
       long = search rules;
       same = search rules;
     }

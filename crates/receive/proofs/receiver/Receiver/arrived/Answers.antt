@@ -15,17 +15,17 @@ returns g c =
     let row = c.args.row.now in
     let marks = c.args.marks.now in
     let none : slot_refused p (room r) t (unfit p (Some q)) (length row) (length marks) ≡ None =
-    sym (ap (λ (m : ℕ). slot_refused p (room r) t (not (eqb (length q) m)) (length row) (length marks)) c.packet-len.ensures)
-    ∙ sym c.refusal.ensures ∙ c.in-default.is in
+    sym (ap (λ (m : ℕ). slot_refused p (room r) t (not (eqb (length q) m)) (length row) (length marks)) c.packet_len.ensures)
+    ∙ sym c.refusal.ensures ∙ c.in_default.is in
     let fits : length q ≡ n p = eqb-true (length q) (n p) (not-false _ (accepted p (room r) t (unfit p (Some q)) (length row) (length marks) none).fit) in
-    slot_call g.S.Symbol.kind r _ c.hand-out.new.self (Some q) q row c.hand-out.new.row marks c.hand-out.new.marks c.hand-out.result
+    slot_call g.S.Symbol.kind r _ c.hand_out.new.self (Some q) q row c.hand_out.new.row marks c.hand_out.new.marks c.hand_out.result
     none fits refl
     (record {
       sheet = refl;
       counters = refl;
       table = c.note.ensures.set;
       full = c.note.ensures.long;
-      line = c.push-all.ensures.held;
-      stays = c.push-all.ensures.kept;
+      line = c.push_all.ensures.held;
+      stays = c.push_all.ensures.kept;
     })
-    c.hand-out.ensures
+    c.hand_out.ensures

@@ -17,11 +17,11 @@ loop-other-init g c =
       zero-mod p.parity,
       lag_none p,
       c.clear.ensures ∙ filled_with _ K.zero _ _ c.requires.symbols (λ i l. refl) ∙ ap (sums_beside K p h c.args.carrier c.args.first) none,
-      c.mark-all.ensures ∙ filled_with _ Mark.Mended _ _ c.requires.marks (λ i l. refl) ∙ ap (known_beside p (heard h) c.args.carrier c.args.first) none,
+      c.mark_all.ensures ∙ filled_with _ Mark.Mended _ _ c.requires.marks (λ i l. refl) ∙ ap (known_beside p (heard h) c.args.carrier c.args.first) none,
     )
 
-pub take-in-requires : goal.take-in-requires
-take-in-requires g c =
+pub take_in-requires : goal.take_in-requires
+take_in-requires g c =
     let p = c.args.self.now.sheet in
     let v = c.loop-other.invariant in
     let K = g.S.Symbol.kind in
@@ -40,4 +40,4 @@ pub loop-other-preserved : goal.loop-other-preserved
 loop-other-preserved g c =
     let p = c.args.self.now.sheet in
     let v = c.loop-other.invariant in
-    (whole_more p c.loop-other.other v.0, lag_more p c.loop-other.other c.loop-other.lag v.1, c.take-in.ensures.sums, c.take-in.ensures.outlooks)
+    (whole_more p c.loop-other.other v.0, lag_more p c.loop-other.other c.loop-other.lag v.1, c.take_in.ensures.sums, c.take_in.ensures.outlooks)

@@ -10,14 +10,14 @@ returns g c =
     let K = g.S.Symbol.kind in
     let r = c.args.self.now in
     let p = r.sheet in
-    let row = c.write-row-verdict.ensures in
-    let v = c.write-row-verdict.result in
+    let row = c.write_row-verdict.ensures in
+    let v = c.write_row-verdict.result in
     record {
       sheet = refl;
       slots = c.count.ensures.slots ∙ c.pass.ensures.slots;
       table = refl;
       line = refl;
-      hands = hands_late K p _ _ r.counters.slots _ c.args.row.now c.write-row-verdict.new.symbols c.args.marks.now c.write-row-verdict.new.marks v
+      hands = hands_late K p _ _ r.counters.slots _ c.args.row.now c.write_row-verdict.new.symbols c.args.marks.now c.write_row-verdict.new.marks v
           (ap (λ (t : ℕ). recalled K p t r.table.states (contents r.line)) c.count.ensures.slots)
           c.if-slot-wait.false refl row.symbols row.marks row.verdict;
       whole = c.count.ensures.whole ∙ ap (λ (x : ℕ). x + cond (whole_row v) 1 0) c.pass.ensures.whole;

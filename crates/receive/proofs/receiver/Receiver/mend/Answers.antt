@@ -16,8 +16,8 @@ all_of f xs first k long past inv =
     let m : min first k ≡ k = omega arith in
     sym (take_all (min first k) xs (omega arith)) ∙ inv ∙ ap (λ i. map f (range_with_len 0 i)) m
 
-pub mend-block-requires : goal.mend-block-requires
-mend-block-requires g c =
+pub mend_block-requires : goal.mend_block-requires
+mend_block-requires g c =
     let p = c.args.self.now.sheet in
     let v = c.loop-first.invariant in
     let first = c.loop-first.first in
@@ -43,8 +43,8 @@ loop-first-preserved g c =
     let below : first < p.row = c.loop-first-test.true in (
       whole_more p first v.0,
       lag_more p first c.loop-first.lag v.1,
-      block_more p (given K p h c.args.row) c.loop-first.symbols c.mend-block.new.symbols first _ _ K.zero below (c.loop-first.auto.symbols ∙ c.requires.symbols) refl c.min-end.ensures v.2 c.mend-block.ensures.symbols,
-      block_more p (mark p (heard h) c.args.row) c.loop-first.marks c.mend-block.new.marks first _ _ Mark.Arrived below (c.loop-first.auto.marks ∙ c.requires.marks) refl c.min-end.ensures v.3 c.mend-block.ensures.marks,
+      block_more p (given K p h c.args.row) c.loop-first.symbols c.mend_block.new.symbols first _ _ K.zero below (c.loop-first.auto.symbols ∙ c.requires.symbols) refl c.min-end.ensures v.2 c.mend_block.ensures.symbols,
+      block_more p (mark p (heard h) c.args.row) c.loop-first.marks c.mend_block.new.marks first _ _ Mark.Arrived below (c.loop-first.auto.marks ∙ c.requires.marks) refl c.min-end.ensures v.3 c.mend_block.ensures.marks,
     )
 
 pub returns : goal.returns

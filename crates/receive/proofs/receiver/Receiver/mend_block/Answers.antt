@@ -18,7 +18,7 @@ returns-then-not-heard g c =
     let silent : heard h (j + since) ≡ false = sym c.heard.ensures ∙ c.if-not-heard.true in
     record {
       symbols = c.clear.ensures ∙ lost_symbols K r.sheet h j c.args.first since c.requires.block c.requires.lag c.requires.missed silent _ c.requires.symbols;
-      marks = c.mark-all.ensures ∙ lost_marks K r.sheet h j c.args.first since c.requires.block c.requires.lag c.requires.missed silent _ c.requires.marks;
+      marks = c.mark_all.ensures ∙ lost_marks K r.sheet h j c.args.first since c.requires.block c.requires.lag c.requires.missed silent _ c.requires.marks;
     }
 
 pub returns : goal.returns
@@ -31,15 +31,15 @@ returns g c =
     let since = c.args.lag in
     let s : ℕ = j + since in
     let held = contents r.line in
-    let steps = c.steps-to-steps.result in
+    let steps = c.steps_to-steps.result in
     let came : heard h (j + since) ≡ true = sym c.heard.ensures ∙ c.if-not-heard.false in
     let marks-are = c.gather.ensures.outlooks in
     record {
       symbols = mended_symbols K p h j c.args.first since c.requires.block c.requires.lag c.requires.missed came
-          c.gather.new.outlooks (λ i. symbol_back K.zero held (steps - i)) c.gather.new.sums c.settle-all.new.places
+          c.gather.new.outlooks (λ i. symbol_back K.zero held (steps - i)) c.gather.new.sums c.settle_all.new.places
           marks-are c.gather.ensures.sums
-          (λ i l. ap (symbol_back K.zero held) (let e : steps - i ≡ (r.counters.slots - (j + since)) * n p - (p.row + ((p.parity - p.row) + i)) = omega (arith, c.steps-to-steps.ensures, c.saturating-sub-column.ensures) in e)
+          (λ i l. ap (symbol_back K.zero held) (let e : steps - i ≡ (r.counters.slots - (j + since)) * n p - (p.row + ((p.parity - p.row) + i)) = omega (arith, c.steps_to-steps.ensures, c.saturating_sub-column.ensures) in e)
           ∙ sym (got_back K p r.counters.slots r.table.states held (j + since) (p.row + ((p.parity - p.row) + i)) came (omega (arith, c.requires.block, p.rows.0))))
-          c.settle-all.ensures;
+          c.settle_all.ensures;
       marks = mended_marks K p h j c.args.first since c.requires.block c.requires.lag c.requires.missed came c.gather.new.outlooks marks-are;
     }

@@ -13,15 +13,15 @@ returns g c =
     let z = g.S.Symbol.kind.zero in
     let row = c.args.row.now in
     let marks = c.args.marks.now in
-    let none : slot_refused p (room r) t false (length row) (length marks) ≡ None = sym c.refusal.ensures ∙ c.in-default.is in
-    slot_call g.S.Symbol.kind r _ c.hand-out.new.self None (replicate c.packet-len.result z) row c.hand-out.new.row marks c.hand-out.new.marks c.hand-out.result
-    none (length-replicate c.packet-len.result z ∙ c.packet-len.ensures) tt
+    let none : slot_refused p (room r) t false (length row) (length marks) ≡ None = sym c.refusal.ensures ∙ c.in_default.is in
+    slot_call g.S.Symbol.kind r _ c.hand_out.new.self None (replicate c.packet_len.result z) row c.hand_out.new.row marks c.hand_out.new.marks c.hand_out.result
+    none (length-replicate c.packet_len.result z ∙ c.packet_len.ensures) tt
     (record {
       sheet = refl;
       counters = refl;
       table = c.note.ensures.set;
       full = c.note.ensures.long;
-      line = c.push-zeros.ensures.held;
-      stays = c.push-zeros.ensures.kept;
+      line = c.push_zeros.ensures.held;
+      stays = c.push_zeros.ensures.kept;
     })
-    c.hand-out.ensures
+    c.hand_out.ensures

@@ -10,7 +10,7 @@ returns g c =
     let lent = c.args.window.now in
     let none = c.new.ensures in
     let over = c.over.ensures in
-    let enough = ap (λ (m : ℕ). fitting m (length lent)) c.«window-len».ensures in
+    let enough = ap (λ (m : ℕ). fitting m (length lent)) c.«window_len».ensures in
     let made : ReceiverMade c.args.sheet lent _ = record {
       sheet = refl;
       slots = none.0;
@@ -18,7 +18,7 @@ returns g c =
       mended = none.2;
       lost = none.3;
       places = over.places ∙ enough;
-      room_is = ap length over.held ∙ length-replicate (fitting c.«window-len».result (length lent)) g.S.Symbol.kind.zero ∙ enough;
+      room_is = ap length over.held ∙ length-replicate (fitting c.«window_len».result (length lent)) g.S.Symbol.kind.zero ∙ enough;
       long = over.long;
       past = over.past ∙ ap (λ (m : ℕ). drop m lent) enough;
     } in

@@ -29,14 +29,14 @@ returns-then-other-first g c =
 long : {X : Type 0} (xs : List X) (f : ℕ → X) (m : ℕ) → xs ≡ map f (range_with_len 0 m) → length xs ≡ m
 long xs f m e = ap length e ∙ length-map-range_with_len f 0 m
 
-pub slice-bounds-add-back-end : goal.slice-bounds-add-back-end
-slice-bounds-add-back-end g c =
+pub slice_bounds-add_back-end : goal.slice_bounds-add_back-end
+slice_bounds-add_back-end g c =
     let is : length c.args.sums.now ≡ size c.args.self.now.sheet c.args.first = long c.args.sums.now _ _ c.requires.sums in
     let fits : c.min-end.result ≤ length c.args.sums.now = omega (arith, c.min-end.ensures, c.max.ensures) in
     fits
 
-pub slice-bounds-mark-all-end : goal.slice-bounds-mark-all-end
-slice-bounds-mark-all-end g c =
+pub slice_bounds-mark_all-end : goal.slice_bounds-mark_all-end
+slice_bounds-mark_all-end g c =
     let is : length c.args.outlooks.now ≡ size c.args.self.now.sheet c.args.first = long c.args.outlooks.now _ _ c.requires.outlooks in
     let fits : c.min-end.result ≤ length c.args.outlooks.now = omega (arith, c.min-end.ensures, c.max.ensures) in
     fits
@@ -51,16 +51,16 @@ returns-then-heard g c =
     let first = c.args.first in
     let other = c.args.other in
     let since = c.args.lag in
-    let steps = c.steps-to.result in
+    let steps = c.steps_to.result in
     let held = contents r.line in
     let came = sym c.if-heard.ensures in
     record {
       sums = heard_sums K p h s first other c.requires.block c.requires.other since c.requires.lag c.if-other-first.false c.if-carrier-lag.false
           c.min-end.result (c.min-end.ensures ∙ ap (λ x. min p.parity (p.row - x)) c.max.ensures)
-          c.args.sums.now c.add-back.new.place (λ i. symbol_back K.zero held (steps - i)) c.requires.sums
-          (λ i l. ap (symbol_back K.zero held) (let e : steps - i ≡ (r.counters.slots - (s - since)) * n p - (other + i) = omega (arith, c.steps-to.ensures) in e)
+          c.args.sums.now c.add_back.new.place (λ i. symbol_back K.zero held (steps - i)) c.requires.sums
+          (λ i l. ap (symbol_back K.zero held) (let e : steps - i ≡ (r.counters.slots - (s - since)) * n p - (other + i) = omega (arith, c.steps_to.ensures) in e)
           ∙ sym (got_back K p r.counters.slots r.table.states held (s - since) (other + i) came (omega (arith, c.requires.other))))
-          c.add-back.ensures;
+          c.add_back.ensures;
       outlooks = c.requires.outlooks ∙ heard_known K p h s first other c.requires.block c.requires.other since c.requires.lag c.if-other-first.false c.if-carrier-lag.false came;
     }
 
@@ -80,5 +80,5 @@ returns-else-heard g c =
           (λ i. got_none K h (s - since) (other + i) missed);
       outlooks = missed_known K p h s first other c.requires.block c.requires.other since c.requires.lag c.if-other-first.false c.if-carrier-lag.false
           c.min-end.result (c.min-end.ensures ∙ ap (λ x. min p.parity (p.row - x)) c.max.ensures)
-          c.args.outlooks.now c.mark-all.new.places c.requires.outlooks missed c.mark-all.ensures;
+          c.args.outlooks.now c.mark_all.new.places c.requires.outlooks missed c.mark_all.ensures;
     }

@@ -16,8 +16,8 @@ returns-then-heard g c =
     let came : heard h j ≡ true = sym c.if-heard.ensures in
     let marks-are : replicate (length c.args.marks.now) Mark.Arrived ≡ marks_of p (heard h) j = arrived_marks p (heard h) j came _ c.requires.marks in
     record {
-      symbols = c.copy-back.ensures ∙ arrived_row K p r.counters.slots r.table.states (contents r.line) j came _ _
-          c.steps-to.ensures c.requires.symbols;
-      marks = c.mark-all.ensures ∙ marks-are;
+      symbols = c.copy_back.ensures ∙ arrived_row K p r.counters.slots r.table.states (contents r.line) j came _ _
+          c.steps_to.ensures c.requires.symbols;
+      marks = c.mark_all.ensures ∙ marks-are;
       verdict = whole_verdict (marks_of p (heard h) j) (length c.args.marks.now) (sym marks-are);
     }

@@ -15,8 +15,8 @@ loop-i-preserved g c =
     let within : i < length places = omega arith in
     let was : c.index-places-i.result ≡ get_or old i K.zero =
     filled_read _ old i c.index-places-i.result K.zero places within c.loop-i.invariant c.index-places-i.is in
-    let is : c.back-or-zero-parity.result ≡ symbol_back K.zero (contents c.args.line.now) (c.args.steps - i) =
-    c.back-or-zero-parity.ensures ∙ ap (symbol_back K.zero (contents c.args.line.now)) c.saturating-sub.ensures in
+    let is : c.back_or_zero-parity.result ≡ symbol_back K.zero (contents c.args.line.now) (c.args.steps - i) =
+    c.back_or_zero-parity.ensures ∙ ap (symbol_back K.zero (contents c.args.line.now)) c.saturating_sub.ensures in
     filled_more _ old i c.settle.result places (omega arith) c.loop-i.invariant
     (c.settle.ensures ∙ ap₂ (settled K (get_or c.args.outlooks.now i Mark.Arrived)) is was)
 

@@ -11,8 +11,8 @@ returns-in-Err g c =
     c.in-Err.fault (sym took.answer) in
     record { answer = took.answer; standing = sym (ap standing_of stops); place = took.place; repeats = send_repeats F }
 
-pub returns-in-default : goal.returns-in-default
-returns-in-default g c = record {
+pub returns-in_default : goal.returns-in_default
+returns-in_default g c = record {
   answer = c.take-taken.ensures.answer;
   standing = search rules;
   place = c.take-taken.ensures.place;

@@ -8,34 +8,34 @@ use Rattle.sending.specs.Printing.{packet_text}
 use Rattle.sending.proofs.Taking.{put_moved}
 use Rattle.sending.proofs.run.SendRun.put_row.Goals as goal
 
-pub returns-in-ok-print-packet : goal.returns-in-ok-print-packet
-returns-in-ok-print-packet g c =
+pub returns-in_ok-print_packet : goal.returns-in_ok-print_packet
+returns-in_ok-print_packet g c =
     let filled : vec_items (with_items c.replace-packet.result c.put-answer.new.place) ≡ c.put-answer.new.place =
-    with_items_is c.replace-packet.result c.put-answer.new.place (c.put-answer.auto.place ∙ c.as-mut-slice.ensures.len) in
+    with_items_is c.replace-packet.result c.put-answer.new.place (c.put-answer.auto.place ∙ c.as_mut_slice.ensures.len) in
     record {
       sheet = refl;
       row = ap vec_items c.replace-row.ensures.value;
       answer = Ok tt;
       call = put_moved g.P.Symbol.kind c.args.self.now.sender c.put-answer.new.self _ _ _ _ _ _ _ _
-          (c.as-slice.ensures.value ∙ ap vec_items c.replace-row.ensures.value) (c.as-mut-slice.ensures.value ∙ ap vec_items c.replace-packet.ensures.value)
+          (c.as_slice.ensures.value ∙ ap vec_items c.replace-row.ensures.value) (c.as_mut_slice.ensures.value ∙ ap vec_items c.replace-packet.ensures.value)
           (sym filled) c.in-Ok.is c.put-answer.ensures;
-      printed = (refl, c.in-ok-print-packet.ensures ∙ ap (λ q. vec_items c.args.out.now ++ packet_text g.P.Printed.form c.args.self.now.sheet c.args.slot q) c.as-slice-in-Ok.ensures.value);
+      printed = (refl, c.in_ok-print_packet.ensures ∙ ap (λ q. vec_items c.args.out.now ++ packet_text g.P.Printed.form c.args.self.now.sheet c.args.slot q) c.as_slice-in-Ok.ensures.value);
     }
 
-pub returns-in-ok-print-fault : goal.returns-in-ok-print-fault
-returns-in-ok-print-fault g c =
+pub returns-in_ok-print_fault : goal.returns-in_ok-print_fault
+returns-in_ok-print_fault g c =
     let filled : vec_items (with_items c.replace-packet.result c.put-answer.new.place) ≡ c.put-answer.new.place =
-    with_items_is c.replace-packet.result c.put-answer.new.place (c.put-answer.auto.place ∙ c.as-mut-slice.ensures.len) in
+    with_items_is c.replace-packet.result c.put-answer.new.place (c.put-answer.auto.place ∙ c.as_mut_slice.ensures.len) in
     record {
       sheet = refl;
       row = ap vec_items c.replace-row.ensures.value;
       answer = Err c.in-Err.refusal;
       call = put_moved g.P.Symbol.kind c.args.self.now.sender c.put-answer.new.self _ _ _ _ _ _ _ _
-          (c.as-slice.ensures.value ∙ ap vec_items c.replace-row.ensures.value) (c.as-mut-slice.ensures.value ∙ ap vec_items c.replace-packet.ensures.value)
+          (c.as_slice.ensures.value ∙ ap vec_items c.replace-row.ensures.value) (c.as_mut_slice.ensures.value ∙ ap vec_items c.replace-packet.ensures.value)
           (sym filled) c.in-Err.is c.put-answer.ensures;
       printed = (
         c.refuse-fault.ensures.standing,
-        c.in-ok-print-fault.ensures
+        c.in_ok-print_fault.ensures
             ∙ ap (λ f. vec_items c.args.out.now ++ unless (fault_refused (run_line f) (run_number f) (run_position f) 18) (fault_text f)) c.refuse-fault.ensures.answer,
       );
     }

@@ -18,22 +18,22 @@ room bytes used n is = omega (arith, (cut (drop used bytes) n is).within, length
 cut_off : (bytes : List ℕ) (used n : ℕ) → take (n - 0) (take (length bytes - used) (drop used bytes)) ≡ take n (drop used bytes)
 cut_off bytes used n = ap₂ take (let z : n - 0 ≡ n = omega arith in z) (take_rest bytes used)
 
-pub slice-bounds-end-line-end : goal.slice-bounds-end-line-end
-slice-bounds-end-line-end g c =
+pub slice_bounds-end_line-end : goal.slice_bounds-end_line-end
+slice_bounds-end_line-end g c =
     let e = left c.args.bytes.now c.loop-rest.used (Some c.in-Some.len) c.in-Some.ensures in
     let r = room c.args.bytes.now c.loop-rest.used c.in-Some.len e in
     let l : c.in-Some.len ≤ length (take (length c.args.bytes.now - c.loop-rest.used) (drop c.loop-rest.used c.args.bytes.now)) =
     omega (arith, ap length (take_rest c.args.bytes.now c.loop-rest.used), length-drop c.loop-rest.used c.args.bytes.now) in
     l
 
-pub overflow-add-used : goal.overflow-add-used
-overflow-add-used g c =
+pub overflow_add-used : goal.overflow_add-used
+overflow_add-used g c =
     let e = left c.args.bytes.now c.loop-rest.used (Some c.in-Some.len) c.in-Some.ensures in
     let r = room c.args.bytes.now c.loop-rest.used c.in-Some.len e in
     omega arith
 
-pub overflow-add-used-in-Some : goal.overflow-add-used-in-Some
-overflow-add-used-in-Some g c =
+pub overflow_add-used-in-Some : goal.overflow_add-used-in-Some
+overflow_add-used-in-Some g c =
     let e = left c.args.bytes.now c.loop-rest.used (Some c.in-Some.len) c.in-Some.ensures in
     let r = room c.args.bytes.now c.loop-rest.used c.in-Some.len e in
     omega arith
@@ -43,14 +43,14 @@ loop-rest-preserved g c =
     let e = left c.args.bytes.now c.loop-rest.used (Some c.in-Some.len) c.in-Some.ensures in
     let r = room c.args.bytes.now c.loop-rest.used c.in-Some.len e in (
       r,
-      turns g.R.LineRun.rest g.R.LineRun.sound g.R.LineRun.paused c.args.run.now c.loop-rest.run c.end-line.new.run
-          (vec_items c.args.self.now.held) (vec_items c.loop-rest.self.held) (vec_items c.end-line.new.self.held) c.args.bytes.now
-          (vec_items c.args.out.now) (vec_items c.loop-rest.out) (vec_items c.end-line.new.out) c.loop-rest.used c.in-Some.len
+      turns g.R.LineRun.rest g.R.LineRun.sound g.R.LineRun.paused c.args.run.now c.loop-rest.run c.end_line.new.run
+          (vec_items c.args.self.now.held) (vec_items c.loop-rest.self.held) (vec_items c.end_line.new.self.held) c.args.bytes.now
+          (vec_items c.args.out.now) (vec_items c.loop-rest.out) (vec_items c.end_line.new.out) c.loop-rest.used c.in-Some.len
           c.loop-rest.invariant.1 (sym c.loop-rest-test.ensures) e
-          (subst (λ (piece : List ℕ). Took g.R.LineRun.rest g.R.LineRun.sound g.R.LineRun.paused c.loop-rest.run c.end-line.new.run
-          (vec_items c.loop-rest.self.held ++ piece) (vec_items c.loop-rest.out) (vec_items c.end-line.new.out))
-          (cut_off c.args.bytes.now c.loop-rest.used c.in-Some.len) c.in-ok-end-line.ensures.took)
-          c.in-ok-end-line.ensures.held,
+          (subst (λ (piece : List ℕ). Took g.R.LineRun.rest g.R.LineRun.sound g.R.LineRun.paused c.loop-rest.run c.end_line.new.run
+          (vec_items c.loop-rest.self.held ++ piece) (vec_items c.loop-rest.out) (vec_items c.end_line.new.out))
+          (cut_off c.args.bytes.now c.loop-rest.used c.in-Some.len) c.in_ok-end_line-in-Some.ensures.took)
+          c.in_ok-end_line-in-Some.ensures.held,
     )
 
 pub returns-in-None : goal.returns-in-None
@@ -62,4 +62,4 @@ returns-in-None g c =
     c.loop-rest.invariant.1 (sym c.loop-rest-test.ensures) e
     (subst (λ (piece : List ℕ). Held g.R.LineRun.rest g.R.LineRun.sound g.R.LineRun.paused c.loop-rest.run c.hold.new.run
     (vec_items c.loop-rest.self.held) (vec_items c.hold.new.self.held) piece (vec_items c.loop-rest.out) (vec_items c.hold.new.out))
-    (take_rest c.args.bytes.now c.loop-rest.used) c.in-ok-hold.ensures)
+    (take_rest c.args.bytes.now c.loop-rest.used) c.in_ok-hold-in-None.ensures)

@@ -14,18 +14,18 @@ returns g c =
     let t = s.count.rows in
     let row = c.args.row.now in
     let place = c.args.place.now in
-    let parities = c.write-parities.new.place in
+    let parities = c.write_parities.new.place in
     let allowed : put_refused p (room s.line) t (length row) (length place) ≡ None =
-    ap (λ w. put_refused p w t (length row) (length place)) (sym c.len.ensures) ∙ sym c.in-default.ensures in
+    ap (λ w. put_refused p w t (length row) (length place)) (sym c.len.ensures) ∙ sym c.in_default.ensures in
     let ok = put_allowed p (room s.line) t (length row) (length place) allowed in
-    let many : length parities ≡ p.parity = ap length c.write-parities.ensures ∙ length-map-range_with_len _ 0 p.parity in
+    let many : length parities ≡ p.parity = ap length c.write_parities.ensures ∙ length-map-range_with_len _ 0 p.parity in
     put_done K s _ _ allowed (record {
       answer = refl;
       sheet = refl;
-      rows = c.add-row.ensures;
+      rows = c.add_row.ensures;
       passes =
-          passes K p t s.line c.push-all.new.self row row ok.2 (λ _ _. refl) ok.0 c.push-all.ensures.held _
-          (placed place c.copy-from-slice.new.self parities p.row (ap length c.copy-from-slice.ensures.after ∙ ok.2) (ok.3 ∙ ap (λ m. p.row + m) (sym many))
-          ∙ ap₂ ◌++◌ c.copy-from-slice.ensures.after c.write-parities.ensures)
-          c.push-all.ensures.kept;
+          passes K p t s.line c.push_all.new.self row row ok.2 (λ _ _. refl) ok.0 c.push_all.ensures.held _
+          (placed place c.copy_from_slice.new.self parities p.row (ap length c.copy_from_slice.ensures.after ∙ ok.2) (ok.3 ∙ ap (λ m. p.row + m) (sym many))
+          ∙ ap₂ ◌++◌ c.copy_from_slice.ensures.after c.write_parities.ensures)
+          c.push_all.ensures.kept;
     })

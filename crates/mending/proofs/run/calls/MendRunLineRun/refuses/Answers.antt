@@ -10,7 +10,7 @@ returns-in-65 g c =
     let F = g.P.Printed.form in
     let r = c.args.self.now in
     let is : get_or c.args.begun.now 0 0 ≡ 65 = c.in-65.is in
-    let k : c.packet-len.result * c.layout.result.width ≡ n r.sheet * c.layout.result.width = ap (λ x. x * c.layout.result.width) c.packet-len.ensures in
+    let k : c.packet_len.result * c.layout.result.width ≡ n r.sheet * c.layout.result.width = ap (λ x. x * c.layout.result.width) c.packet_len.ensures in
     let m : n r.sheet * c.layout.result.width ≡ n r.sheet * F.layout.width = ap (λ x. n r.sheet * x.width) c.layout.ensures in
     record {
       alike = λ long. refused_packet g.P.Symbol.kind F r c.args.begun.now (some_letter 65 c.args.begun.now (omega arith) is) is (omega (arith, ltb-true _ _ long, k, m));

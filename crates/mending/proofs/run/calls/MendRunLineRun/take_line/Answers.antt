@@ -5,49 +5,49 @@ use Rattle.runs.specs.Runs.{answer_of, standing_of, mend_read, mend_place}
 use Rattle.mending.proofs.Taking.{packet_took, missed_took, fault_took}
 use Rattle.mending.proofs.run.calls.MendRunLineRun.take_line.Goals as goal
 
-pub returns-in-ok-take-arrived : goal.returns-in-ok-take-arrived
-returns-in-ok-take-arrived g c =
+pub returns-in_ok-take_arrived : goal.returns-in_ok-take_arrived
+returns-in_ok-take_arrived g c =
     let F = g.P.Printed.form in
     let before = c.args.self.now in
     let line = c.args.line.now in
-    let value = c.as-mut-slice.ensures.value in
+    let value = c.as_mut_slice.ensures.value in
     let filled : vec_items (with_items before.packet c.read-read.new.packet) ≡ c.read-read.new.packet =
-    with_items_is before.packet c.read-read.new.packet (c.read-read.auto.packet ∙ c.as-mut-slice.ensures.len) in
-    packet_took g.P.Symbol.kind F before _ c.take-arrived.new.self line (vec_items c.args.out.now) (vec_items c.take-arrived.new.out)
+    with_items_is before.packet c.read-read.new.packet (c.read-read.auto.packet ∙ c.as_mut_slice.ensures.len) in
+    packet_took g.P.Symbol.kind F before _ c.take_arrived.new.self line (vec_items c.args.out.now) (vec_items c.take_arrived.new.out)
     refl refl refl refl
     (c.read-read.ensures.standing ∙ ap (λ xs. standing_of (mend_read F before.reader.standing (length xs) line)) value)
     (filled ∙ c.read-read.ensures.place ∙ ap (λ xs. mend_place F before.reader.standing line xs) value)
     (ap length filled ∙ c.read-read.auto.packet ∙ ap length value)
     c.in-Arrived.number
     (sym (ap Ok c.in-Arrived.is) ∙ c.in-Ok.ensures.answer ∙ ap (λ xs. answer_of (mend_read F before.reader.standing (length xs) line)) value)
-    c.in-ok-take-arrived.ensures
+    c.in_ok-take_arrived.ensures
 
-pub returns-in-ok-take-missed : goal.returns-in-ok-take-missed
-returns-in-ok-take-missed g c =
+pub returns-in_ok-take_missed : goal.returns-in_ok-take_missed
+returns-in_ok-take_missed g c =
     let F = g.P.Printed.form in
     let before = c.args.self.now in
     let line = c.args.line.now in
-    let value = c.as-mut-slice.ensures.value in
+    let value = c.as_mut_slice.ensures.value in
     let filled : vec_items (with_items before.packet c.read-read.new.packet) ≡ c.read-read.new.packet =
-    with_items_is before.packet c.read-read.new.packet (c.read-read.auto.packet ∙ c.as-mut-slice.ensures.len) in
-    missed_took g.P.Symbol.kind F before _ c.take-missed.new.self line (vec_items c.args.out.now) (vec_items c.take-missed.new.out)
+    with_items_is before.packet c.read-read.new.packet (c.read-read.auto.packet ∙ c.as_mut_slice.ensures.len) in
+    missed_took g.P.Symbol.kind F before _ c.take_missed.new.self line (vec_items c.args.out.now) (vec_items c.take_missed.new.out)
     refl refl refl refl
     (c.read-read.ensures.standing ∙ ap (λ xs. standing_of (mend_read F before.reader.standing (length xs) line)) value)
     (filled ∙ c.read-read.ensures.place ∙ ap (λ xs. mend_place F before.reader.standing line xs) value)
     (ap length filled ∙ c.read-read.auto.packet ∙ ap length value)
     c.in-Missed.number
     (sym (ap Ok c.in-Missed.is) ∙ c.in-Ok.ensures.answer ∙ ap (λ xs. answer_of (mend_read F before.reader.standing (length xs) line)) value)
-    c.in-ok-take-missed.ensures
+    c.in_ok-take_missed.ensures
 
-pub returns-in-ok-print-fault : goal.returns-in-ok-print-fault
-returns-in-ok-print-fault g c =
+pub returns-in_ok-print_fault : goal.returns-in_ok-print_fault
+returns-in_ok-print_fault g c =
     let F = g.P.Printed.form in
     let before = c.args.self.now in
     let line = c.args.line.now in
-    let value = c.as-mut-slice.ensures.value in
+    let value = c.as_mut_slice.ensures.value in
     let filled : vec_items (with_items before.packet c.read-read.new.packet) ≡ c.read-read.new.packet =
-    with_items_is before.packet c.read-read.new.packet (c.read-read.auto.packet ∙ c.as-mut-slice.ensures.len) in
-    fault_took g.P.Symbol.kind F before _ _ line (vec_items c.args.out.now) (vec_items c.print-fault.new.out)
+    with_items_is before.packet c.read-read.new.packet (c.read-read.auto.packet ∙ c.as_mut_slice.ensures.len) in
+    fault_took g.P.Symbol.kind F before _ _ line (vec_items c.args.out.now) (vec_items c.print_fault.new.out)
     refl refl refl refl
     (c.read-read.ensures.standing ∙ ap (λ xs. standing_of (mend_read F before.reader.standing (length xs) line)) value)
     (filled ∙ c.read-read.ensures.place ∙ ap (λ xs. mend_place F before.reader.standing line xs) value)
@@ -55,4 +55,4 @@ returns-in-ok-print-fault g c =
     c.in-Err.fault
     (c.in-Err.ensures.answer ∙ ap (λ xs. answer_of (mend_read F before.reader.standing (length xs) line)) value)
     refl
-    c.in-ok-print-fault.ensures
+    c.in_ok-print_fault.ensures

@@ -5,32 +5,32 @@ use Rattle.runs.specs.Runs.{answer_of, standing_of, send_read, send_place}
 use Rattle.sending.proofs.Taking.{row_took, fault_took}
 use Rattle.sending.proofs.run.calls.SendRunLineRun.take_line.Goals as goal
 
-pub returns-in-ok-put-row : goal.returns-in-ok-put-row
-returns-in-ok-put-row g c =
+pub returns-in_ok-put_row : goal.returns-in_ok-put_row
+returns-in_ok-put_row g c =
     let F = g.P.Printed.form in
     let before = c.args.self.now in
     let line = c.args.line.now in
-    let value = c.as-mut-slice.ensures.value in
+    let value = c.as_mut_slice.ensures.value in
     let filled : vec_items (with_items before.row c.read-read.new.row) ≡ c.read-read.new.row =
-    with_items_is before.row c.read-read.new.row (c.read-read.auto.row ∙ c.as-mut-slice.ensures.len) in
-    row_took g.P.Symbol.kind F before _ c.put-row.new.self line (vec_items c.args.out.now) (vec_items c.put-row.new.out)
+    with_items_is before.row c.read-read.new.row (c.read-read.auto.row ∙ c.as_mut_slice.ensures.len) in
+    row_took g.P.Symbol.kind F before _ c.put_row.new.self line (vec_items c.args.out.now) (vec_items c.put_row.new.out)
     refl refl refl
     (c.read-read.ensures.standing ∙ ap (λ xs. standing_of (send_read F before.reader.standing (length xs) line)) value)
     (filled ∙ c.read-read.ensures.place ∙ ap (λ xs. send_place F before.reader.standing line xs) value)
     (ap length filled ∙ c.read-read.auto.row ∙ ap length value)
     c.in-Row.number
     (sym (ap Ok c.in-Row.is) ∙ c.in-Ok.ensures.answer ∙ ap (λ xs. answer_of (send_read F before.reader.standing (length xs) line)) value)
-    c.in-ok-put-row.ensures
+    c.in_ok-put_row.ensures
 
-pub returns-in-ok-print-fault : goal.returns-in-ok-print-fault
-returns-in-ok-print-fault g c =
+pub returns-in_ok-print_fault : goal.returns-in_ok-print_fault
+returns-in_ok-print_fault g c =
     let F = g.P.Printed.form in
     let before = c.args.self.now in
     let line = c.args.line.now in
-    let value = c.as-mut-slice.ensures.value in
+    let value = c.as_mut_slice.ensures.value in
     let filled : vec_items (with_items before.row c.read-read.new.row) ≡ c.read-read.new.row =
-    with_items_is before.row c.read-read.new.row (c.read-read.auto.row ∙ c.as-mut-slice.ensures.len) in
-    fault_took g.P.Symbol.kind F before _ _ line (vec_items c.args.out.now) (vec_items c.print-fault.new.out)
+    with_items_is before.row c.read-read.new.row (c.read-read.auto.row ∙ c.as_mut_slice.ensures.len) in
+    fault_took g.P.Symbol.kind F before _ _ line (vec_items c.args.out.now) (vec_items c.print_fault.new.out)
     refl refl refl
     (c.read-read.ensures.standing ∙ ap (λ xs. standing_of (send_read F before.reader.standing (length xs) line)) value)
     (filled ∙ c.read-read.ensures.place ∙ ap (λ xs. send_place F before.reader.standing line xs) value)
@@ -38,4 +38,4 @@ returns-in-ok-print-fault g c =
     c.in-Err.fault
     (c.in-Err.ensures.answer ∙ ap (λ xs. answer_of (send_read F before.reader.standing (length xs) line)) value)
     refl
-    c.in-ok-print-fault.ensures
+    c.in_ok-print_fault.ensures
