@@ -6,4 +6,4 @@ pub loop-i-preserved : goal.loop-i-preserved
 loop-i-preserved g c =
     c.in_ok-push.ensures.items
     ∙ ap (λ x. x ++ (c.args.value ∷ [])) c.loop-i.invariant
-    ∙ replicate_more c.loop-i.-i c.args.value
+    ∙ replicate_more c.loop-i._i c.args.value

@@ -4,6 +4,6 @@ use Rattle.text.proofs.read.check_fields.Given as goal
 
 abbrev pub invariant-loop-i : goal.invariant-loop-i
 invariant-loop-i g l =
-    (l.next ≡ l.-i * g.P.Printed.form.layout.width)
+    (l.next ≡ l._i * g.P.Printed.form.layout.width)
     × (told (symbols_read g.P.Printed.form l.at l.count l.fields)
-    ≡ told (symbols_read g.P.Printed.form (l.at + l.next) (l.count - l.-i) (drop l.next l.fields)))
+    ≡ told (symbols_read g.P.Printed.form (l.at + l.next) (l.count - l._i) (drop l.next l.fields)))

@@ -25,7 +25,7 @@ pub returns-in_err-symbols : goal.returns-in_err-symbols
 returns-in_err-symbols g c =
     let F = g.P.Printed.form in
     let k : c.layout-width.result.width ≡ g.P.Printed.form.layout.width = ap (λ x. x.width) c.layout-width.ensures in
-    let p = err_from_is_err_and c.from-residual.result c.from-residual.ensures.1 in
+    let p = err_from_is_err_and c.from_residual.result c.from_residual.ensures.1 in
     let h : c.loop-i.i < length c.loop-i.symbols = omega arith in
     let r = refused F c.args.at c.layout-width.result.width c.loop-i.next c.loop-i.i c.args.fields.now
     c.loop-i.symbols c.read_symbol.result h k c.loop-i.invariant.1 c.read_symbol.ensures

@@ -11,7 +11,7 @@ returns-in_err-check_fields g c =
     let line = c.args.line.now in
     let count = c.args.count in
     let l = c.if-line-count.false ∙ ap (λ x. 9 + c.args.count * x.width) c.layout.ensures in
-    let p = err_from_is_err_and c.from-residual-in_err-check_fields.result c.from-residual-in_err-check_fields.ensures.1 in
+    let p = err_from_is_err_and c.from_residual-in_err-check_fields.result c.from_residual-in_err-check_fields.ensures.1 in
     let fault = c.in_err-check_fields.field-0.0 in
     let reads = err_from_told (symbols_read F 10 count (take (length line - 9) (drop 9 line))) fault
     (sym c.check_fields.ensures ∙ c.in_err-check_fields.was) in
@@ -19,7 +19,7 @@ returns-in_err-check_fields g c =
     (sym c.if-not-has_letter.ensures) l (sym c.in_ok-number.ensures)
     (symbols_read F 10 count (take (length line - 9) (drop 9 line))) refl fault reads in
     let a = refused_read c.args.misfit c.args.place.now (symbols_of F c.args.letter count c.args.next line) _
-    c.from-residual-in_err-check_fields.result (p.1 ∙ ap Err p.2) line-fault in
+    c.from_residual-in_err-check_fields.result (p.1 ∙ ap Err p.2) line-fault in
     record { answer = a.answer_is; place = a.after_is }
 
 pub returns-then-number-next : goal.returns-then-number-next

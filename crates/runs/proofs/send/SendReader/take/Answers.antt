@@ -7,7 +7,7 @@ use Rattle.runs.proofs.send.SendReader.take.Goals as goal
 pub returns-in_err-numbered : goal.returns-in_err-numbered
 returns-in_err-numbered g c =
     let arm = c.in-InRun-Some-R in
-    let p = err_from_is_err_and c.from-residual-in_err-numbered.result c.from-residual-in_err-numbered.ensures.1 in
+    let p = err_from_is_err_and c.from_residual-in_err-numbered.result c.from_residual-in_err-numbered.ensures.1 in
     let standing = c.args.self.now.standing in
     let letter : letter_of c.args.line.now ≡ Some 82 = search rules in
     let w = send_fault g.P.Printed.form standing arm.header arm.next c.line_at.result c.args.line.now
