@@ -11,7 +11,7 @@ use Rattle.runs.specs.declared.standing.Standing.TheVariants.{InRun}
 use Rattle.runs.specs.declared.standing.SendLine.TheVariants as send
 use Rattle.runs.specs.declared.standing.MendLine.TheVariants as mend
 use Rattle.text.specs.Reading.{and_then, told, fitting, row_into, packet_into, row_read, packet_read, symbols_or}
-use Rattle.runs.specs.Runs.{letter_of, numbered_as, paired, Given, answer_of, standing_of, send_row, send_read, send_place, SendRepeats, mend_slot, mend_read, mend_place, MendRepeats}
+use Rattle.runs.specs.Runs.{letter_of, numbered_as, paired, Given, answer_of, standing_of, standing_or, send_row, send_read, send_place, SendRepeats, mend_slot, mend_read, mend_place, MendRepeats}
 use Rattle.runs.specs.Standings.{line_at}
 use Rattle.text.proofs.Inverses.{no_ok, then_ok, symbols_parts}
 
@@ -86,6 +86,12 @@ module _ {S : Type 0} (F : Form S) (standing : Standing) (header : Header) (next
 pub answer_err : {L : Type 0} (given : Result (Given L) RunFault) (f : RunFault) → answer_of given ≡ Err f → given ≡ Err f
 answer_err (Ok g) f h = no_ok (sym h)
 answer_err (Err e) f h = let k : e ≡ f = cc in ap Err k
+
+-- where the answer tells no fault, the standing that a fault would leave is not asked
+pub answer_ok : {L : Type 0} (standing : Standing) (given : Result (Given L) RunFault) (l : L) → answer_of given ≡ Ok l →
+    standing_or standing given ≡ standing_of given
+answer_ok standing (Ok g) l h = refl
+answer_ok standing (Err e) l h = no_ok h
 
 pub send_repeats : {S : Type 0} (F : Form S) → SendRepeats F
 send_repeats F standing place place' line line' f h =
