@@ -5,8 +5,8 @@ use Rattle.runs.specs.Runs.{answer_of, standing_of, mend_read, mend_place}
 use Rattle.mending.proofs.Taking.{packet_took, missed_took, fault_took}
 use Rattle.mending.proofs.run.calls.MendRunLineRun.take_line.Goals as goal
 
-pub returns-in_ok-take_arrived : goal.returns-in_ok-take_arrived
-returns-in_ok-take_arrived g c =
+pub returns-in_ok-take_arrived-in-Ok : goal.returns-in_ok-take_arrived-in-Ok
+returns-in_ok-take_arrived-in-Ok g c =
     let F = g.P.Printed.form in
     let before = c.args.self.now in
     let line = c.args.line.now in
@@ -20,10 +20,10 @@ returns-in_ok-take_arrived g c =
     (ap length filled ∙ c.read-read.auto.packet ∙ ap length value)
     c.in-Arrived.number
     (sym (ap Ok c.in-Arrived.is) ∙ c.in-Ok.ensures.answer ∙ ap (λ xs. answer_of (mend_read F before.reader.standing (length xs) line)) value)
-    c.in_ok-take_arrived.ensures
+    c.in_ok-take_arrived-in-Ok.ensures
 
-pub returns-in_ok-take_missed : goal.returns-in_ok-take_missed
-returns-in_ok-take_missed g c =
+pub returns-in_ok-take_missed-in-Ok : goal.returns-in_ok-take_missed-in-Ok
+returns-in_ok-take_missed-in-Ok g c =
     let F = g.P.Printed.form in
     let before = c.args.self.now in
     let line = c.args.line.now in
@@ -37,10 +37,10 @@ returns-in_ok-take_missed g c =
     (ap length filled ∙ c.read-read.auto.packet ∙ ap length value)
     c.in-Missed.number
     (sym (ap Ok c.in-Missed.is) ∙ c.in-Ok.ensures.answer ∙ ap (λ xs. answer_of (mend_read F before.reader.standing (length xs) line)) value)
-    c.in_ok-take_missed.ensures
+    c.in_ok-take_missed-in-Ok.ensures
 
-pub returns-in_ok-print_fault : goal.returns-in_ok-print_fault
-returns-in_ok-print_fault g c =
+pub returns-in_ok-print_fault-in-Err : goal.returns-in_ok-print_fault-in-Err
+returns-in_ok-print_fault-in-Err g c =
     let F = g.P.Printed.form in
     let before = c.args.self.now in
     let line = c.args.line.now in
@@ -55,4 +55,4 @@ returns-in_ok-print_fault g c =
     c.in-Err.fault
     (c.in-Err.ensures.answer ∙ ap (λ xs. answer_of (mend_read F before.reader.standing (length xs) line)) value)
     refl
-    c.in_ok-print_fault.ensures
+    c.in_ok-print_fault-in-Err.ensures

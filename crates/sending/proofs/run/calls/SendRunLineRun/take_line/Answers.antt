@@ -5,8 +5,8 @@ use Rattle.runs.specs.Runs.{answer_of, standing_of, send_read, send_place}
 use Rattle.sending.proofs.Taking.{row_took, fault_took}
 use Rattle.sending.proofs.run.calls.SendRunLineRun.take_line.Goals as goal
 
-pub returns-in_ok-put_row : goal.returns-in_ok-put_row
-returns-in_ok-put_row g c =
+pub returns-in_ok-put_row-in-Ok : goal.returns-in_ok-put_row-in-Ok
+returns-in_ok-put_row-in-Ok g c =
     let F = g.P.Printed.form in
     let before = c.args.self.now in
     let line = c.args.line.now in
@@ -20,10 +20,10 @@ returns-in_ok-put_row g c =
     (ap length filled ∙ c.read-read.auto.row ∙ ap length value)
     c.in-Row.number
     (sym (ap Ok c.in-Row.is) ∙ c.in-Ok.ensures.answer ∙ ap (λ xs. answer_of (send_read F before.reader.standing (length xs) line)) value)
-    c.in_ok-put_row.ensures
+    c.in_ok-put_row-in-Ok.ensures
 
-pub returns-in_ok-print_fault : goal.returns-in_ok-print_fault
-returns-in_ok-print_fault g c =
+pub returns-in_ok-print_fault-in-Err : goal.returns-in_ok-print_fault-in-Err
+returns-in_ok-print_fault-in-Err g c =
     let F = g.P.Printed.form in
     let before = c.args.self.now in
     let line = c.args.line.now in
@@ -38,4 +38,4 @@ returns-in_ok-print_fault g c =
     c.in-Err.fault
     (c.in-Err.ensures.answer ∙ ap (λ xs. answer_of (send_read F before.reader.standing (length xs) line)) value)
     refl
-    c.in_ok-print_fault.ensures
+    c.in_ok-print_fault-in-Err.ensures
