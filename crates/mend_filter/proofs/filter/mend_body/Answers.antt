@@ -3,12 +3,12 @@ use Rattle.stream.specs.Lines.{lines_of}
 use Rattle.mending.specs.Text.{body_text}
 use Rattle.mend_filter.proofs.filter.mend_body.Goals as goal
 
-pub returns-in_ok-mend_slots : goal.returns-in_ok-mend_slots
-returns-in_ok-mend_slots c =
-    c.in_ok-mend_slots.ensures
+pub returns-in_ok-mend_slots-in-Bytes : goal.returns-in_ok-mend_slots-in-Bytes
+returns-in_ok-mend_slots-in-Bytes c =
+    c.in_ok-mend_slots-in-Bytes.ensures
     ∙ sym (ap (λ kind. vec_items c.args.out.now ++ body_text kind c.args.header.sheet (lines_of c.args.text.now)) c.in-Bytes.is)
 
-pub returns-in_ok-mend_slots-2 : goal.returns-in_ok-mend_slots-2
-returns-in_ok-mend_slots-2 c =
-    c.in_ok-mend_slots-2.ensures
+pub returns-in_ok-mend_slots-in-Digits : goal.returns-in_ok-mend_slots-in-Digits
+returns-in_ok-mend_slots-in-Digits c =
+    c.in_ok-mend_slots-in-Digits.ensures
     ∙ sym (ap (λ kind. vec_items c.args.out.now ++ body_text kind c.args.header.sheet (lines_of c.args.text.now)) c.in-Digits.is)

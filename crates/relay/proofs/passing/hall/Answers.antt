@@ -51,14 +51,14 @@ loop-used-preserved c =
       omega arith,
       line_passed (listed c.args.missed.now) text (take (len - 0) (take (length text - used) (drop used text))) used
           c.loop-used.lines len (vec_items c.loop-used.out) (vec_items c.pass_line.new.out)
-          (hall (listed c.args.missed.now) text) e (cut_off text used len) c.in_ok-pass_line.ensures c.loop-used.invariant.2,
+          (hall (listed c.args.missed.now) text) e (cut_off text used len) c.in_ok-pass_line-in-Some.ensures c.loop-used.invariant.2,
     )
 
-pub returns-in_err-pass_line : goal.returns-in_err-pass_line
-returns-in_err-pass_line c = record { turns = search rules; relays = relays }
+pub returns-in_err-pass_line-in-Some : goal.returns-in_err-pass_line-in-Some
+returns-in_err-pass_line-in-Some c = record { turns = search rules; relays = relays }
 
-pub returns-in_err-pass_line-2 : goal.returns-in_err-pass_line-2
-returns-in_err-pass_line-2 c = record { turns = search rules; relays = relays }
+pub returns-in_err-pass_line-in-None : goal.returns-in_err-pass_line-in-None
+returns-in_err-pass_line-in-None c = record { turns = search rules; relays = relays }
 
 pub returns-in-None : goal.returns-in-None
 returns-in-None c =
@@ -69,7 +69,7 @@ returns-in-None c =
     record {
       turns = last_passed (listed c.args.missed.now) (drop used text) (take (length text - used) (drop used text))
           c.loop-used.lines (vec_items c.loop-used.out) (vec_items c.pass_line-in-None.new.out)
-          (hall (listed c.args.missed.now) text) e some (take_rest text used) c.in_ok-pass_line-2.ensures
+          (hall (listed c.args.missed.now) text) e some (take_rest text used) c.in_ok-pass_line-in-None.ensures
           c.loop-used.invariant.2;
       relays = relays;
     }
