@@ -1,5 +1,5 @@
 -- A row taken block by block. Assumes nothing.
-use Rattle.std.proofs.Common.{◌≡◌, ℕ, zero, suc, ◌+◌, ◌-◌, ◌*◌, ◌/◌, ◌%◌, ◌<◌, ◌≤◌, min, Bool, leb, ◌⊎◌, sym, refl, ap, ◌∙◌, inl, inr, mod-eq_of_lt, div-add-mod', arith}
+use Rattle.std.proofs.Common.{◌≡◌, ℕ, zero, suc, ◌+◌, ◌-◌, ◌*◌, ◌/◌, ◌%◌, ◌<◌, ◌≤◌, min, leb, ◌⊎◌, sym, ap, ◌∙◌, inl, inr, mod-eq_of_lt, div-add-mod', arith}
 use native.Mathlib.Nat.{div-eq_of_lt-le, mul-add-mod_self_right}
 use Rattle.std.proofs.lemmas.Bool.{cases_Bool, cases_eq, cond-true, cond-false, leb-true, leb-false, eq-eqb, ne_eqb}
 use Rattle.kinds.specs.Kind.{Kind}

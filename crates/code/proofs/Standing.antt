@@ -1,10 +1,10 @@
 -- All that holds of the code. Assumes nothing.
-use Rattle.std.proofs.Common.{◌≡◌, ℕ, ◌+◌, ◌/◌, ◌≤◌, refl, ap, ◌∙◌, arith}
+use Rattle.std.proofs.Common.{◌≡◌, ◌/◌, refl, ap, ◌∙◌, arith}
 use Rattle.std.proofs.lemmas.Bool.{eq-eqb}
 use Rattle.kinds.specs.Kind.{Kind}
 use Rattle.kinds.proofs.Algebra.{sum_difference}
 use Rattle.code.specs.declared.sheet.Sheet.{Sheet}
-use Rattle.code.specs.Sheets.{lag, carrier, column}
+use Rattle.code.specs.Sheets.{carrier, column}
 use Rattle.code.specs.Packets.{in_column}
 use Rattle.code.specs.Mending.{beside}
 use Rattle.code.specs.Theory.{Theory}

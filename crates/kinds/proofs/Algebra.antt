@@ -1,6 +1,6 @@
 -- What the laws of a kind give. Assumes nothing.
-use Rattle.std.proofs.Common.{◌≡◌, ◌≢◌, List, [], ◌∷◌, sym, ap, ◌∙◌}
-use Rattle.kinds.specs.Kind.{Kind, total}
+use Rattle.std.proofs.Common.{◌≡◌, ◌≢◌, sym, ap, ◌∙◌}
+use Rattle.kinds.specs.Kind.{Kind}
 
 module _ {S : Type 0} (K : Kind S) where
   -- o and what undoes it

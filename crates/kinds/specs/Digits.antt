@@ -1,5 +1,5 @@
 -- Decimal digits, summed modulo ten. Assumes nothing.
-use Rattle.std.specs.Prelude.{◌≡◌, ℕ, ◌%◌, ◌<◌, List, [], ◌∷◌, slice_index_or, refl}
+use Rattle.std.specs.Prelude.{◌≡◌, ℕ, ◌%◌, ◌<◌, [], ◌∷◌, slice_index_or, refl}
 use Rattle.std.proofs.Common.{sym, ◌∙◌, mod-eq_of_lt, zero-add, arith, lit<, lit≤}
 use Rattle.std.proofs.lemmas.List.{get_or-map}
 use Rattle.std.proofs.lemmas.List.FromFn.{get_or-range_with_len}

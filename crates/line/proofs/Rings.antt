@@ -1,11 +1,11 @@
 -- A window read as a ring. Assumes nothing.
 use Rattle.std.proofs.Common.{◌≡◌, ℕ, zero, suc, ◌+◌, ◌-◌, ◌<◌, ◌≤◌, min, leb, ◌⊎◌, List, [], ◌∷◌, ◌++◌, map, reverse, length, get_or, take, drop, set, replicate, Some, None, unwrap_or, sym, refl, ap, ◌∙◌, ap₂, inl, inr, arith}
 use borrow.Rule.Slice.PartMut.{put_mid}
-use Rattle.std.proofs.lemmas.List.{append-nil, append_assoc, reverse-append, length-append, length-take, length-drop, length-reverse, length-take-le, take-append-drop, take_at, take_all, take-take, take-append-le, drop_all, drop-drop, drop-append-le, get_or-reverse, get_or_append_left, get_or-append_right, get_or-drop, get_or-take, nil_from_length, set_split, ext_get_or, get_or-replicate, length-replicate}
+use Rattle.std.proofs.lemmas.List.{append-nil, append_assoc, reverse-append, length-append, length-take, length-drop, length-reverse, length-take-le, take-append-drop, take_at, take_all, take-take, drop_all, drop-drop, drop-append-le, get_or-reverse, get_or_append_left, get_or-append_right, get_or-drop, get_or-take, nil_from_length, set_split, ext_get_or, get_or-replicate, length-replicate}
 use Rattle.std.proofs.lemmas.Slice.{take-put_mid, drop-put_mid}
 use Rattle.std.proofs.lemmas.Option.{slice_get-get_or, slice_get_past}
 use Rattle.std.proofs.lemmas.Bool.{cases_lt, cond_both, leb-true}
-use Rattle.std.specs.List.{slice_get, range_with_len}
+use Rattle.std.specs.List.{range_with_len}
 use Rattle.std.proofs.lemmas.List.FromFn.{fill_by_all}
 use Rattle.kinds.specs.Kind.{Kind}
 use Rattle.kinds.proofs.Lists.{map_same}

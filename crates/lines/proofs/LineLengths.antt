@@ -1,5 +1,5 @@
 -- How long the lines are.
-use Rattle.std.proofs.Common.{◌≡◌, ℕ, zero, suc, ◌+◌, ◌-◌, ◌*◌, ◌^◌, ◌<◌, ◌≤◌, Bool, true, false, cond, List, [], ◌∷◌, ◌++◌, length, replicate, Some, sym, refl, ap, ◌∙◌, suc-mul, zero-mul, arith, length-append}
+use Rattle.std.proofs.Common.{◌≡◌, ℕ, suc, ◌+◌, ◌-◌, ◌*◌, ◌≤◌, Bool, true, false, cond, List, [], ◌∷◌, ◌++◌, length, replicate, Some, sym, refl, ap, ◌∙◌, suc-mul, zero-mul, arith, length-append}
 use Rattle.std.proofs.lemmas.List.{length-replicate}
 use Rattle.kinds.specs.Form.{Form}
 use Rattle.kinds.specs.Kind.{Kind}
@@ -9,8 +9,8 @@ use Rattle.code.specs.declared.mark.Mark.TheVariants.{Arrived, Mended, Lost}
 use Rattle.code.specs.declared.sheet.Sheet.{Sheet}
 use Rattle.lines.specs.declared.header.SymbolKind.{SymbolKind}
 use Rattle.lines.specs.Fields.{field}
-use Rattle.lines.specs.Lines.{ended, kind_letter, header_line, lost_field, has_mark, due_letter, symbol_fields, due_field, due_fields, due_line, tally_line, fault_line, line_length}
-use Rattle.lines.specs.Lengths.{HasLength, Lengths}
+use Rattle.lines.specs.Lines.{ended, header_line, lost_field, has_mark, due_letter, symbol_fields, due_field, due_fields, tally_line, fault_line, line_length}
+use Rattle.lines.specs.Lengths.{Lengths}
 use Rattle.lines.proofs.Widths.{length-symbol, length_symbols}
 use Rattle.lines.proofs.Numbers.{length-field}
 use Rattle.lines.proofs.Rooms.{wide}

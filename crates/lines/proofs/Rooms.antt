@@ -1,5 +1,5 @@
 -- A printed kind's fields have room for its numbers.
-use Rattle.std.proofs.Common.{◌≡◌, ℕ, zero, suc, ◌+◌, ◌-◌, ◌*◌, ◌^◌, ◌<◌, ◌≤◌, sym, refl, ap, ◌∙◌, mul-le-mul_right, add-mul, one-mul, arith}
+use Rattle.std.proofs.Common.{◌≡◌, ℕ, zero, suc, ◌+◌, ◌-◌, ◌*◌, ◌^◌, ◌<◌, ◌≤◌, sym, ap, ◌∙◌, mul-le-mul_right, add-mul, one-mul, arith}
 use native.Mathlib.Nat.{pow-le-pow_right}
 use Rattle.kinds.specs.Form.{Form}
 use Rattle.kinds.specs.Kind.{Kind}

@@ -1,5 +1,5 @@
 -- Every line that can be written has the length of its letter. Assumes nothing.
-use Rattle.std.specs.Prelude.{◌≡◌, ℕ, ◌≤◌, List, length, Some, Option}
+use Rattle.std.specs.Prelude.{◌≡◌, ℕ, ◌≤◌, List, length, Some}
 use Rattle.kinds.specs.Form.{Form}
 use Rattle.code.specs.Sheets.{n}
 use Rattle.code.specs.declared.mark.Mark.{Mark}

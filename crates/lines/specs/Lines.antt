@@ -1,5 +1,5 @@
 -- The lines, by their letters. A line is a list of bytes without the byte 10 that ends it. Assumes nothing.
-use Rattle.std.specs.Prelude.{ℕ, ◌+◌, ◌-◌, ◌*◌, Bool, true, false, cond, ◌||◌, List, [], ◌∷◌, ◌++◌, replicate, Some, None, Option, ◌==◌}
+use Rattle.std.specs.Prelude.{ℕ, ◌+◌, ◌-◌, ◌*◌, Bool, false, cond, ◌||◌, List, [], ◌∷◌, ◌++◌, replicate, Some, None, Option, ◌==◌}
 use Rattle.std.specs.List.{flat_map}
 use Rattle.kinds.specs.Form.{Form}
 use Rattle.kinds.specs.declared.layout.Layout.{Layout}

@@ -1,5 +1,5 @@
 -- How a field is scanned, byte by byte. Only the scanning code cites this; what it finds is `number_in`. Assumes nothing.
-use Rattle.std.specs.Prelude.{ℕ, ◌+◌, ◌-◌, ◌*◌, ◌%◌, ◌<◌, cond, not, ◌&&◌, List, [], ◌∷◌, ◌==◌}
+use Rattle.std.specs.Prelude.{ℕ, ◌+◌, ◌-◌, ◌*◌, ◌%◌, ◌<◌, cond, not, ◌&&◌, ◌==◌}
 use Rattle.lines.specs.declared.field.Seen.{Seen}
 use Rattle.lines.specs.declared.field.Seen.TheVariants.{Blanks, Number, Wrong}
 use Rattle.lines.specs.Fields.{is_digit}

@@ -1,7 +1,6 @@
 -- A mending run up to its header. Assumes nothing.
 use Rattle.std.specs.Prelude.{◌≡◌, ℕ, ◌≤◌, Bool, true, false, List, [], ◌++◌, length, drop, Some, None, Option}
 use Rattle.lines.specs.declared.header.Header.{Header}
-use Rattle.text.specs.declared.fault.RunFault.{RunFault}
 use Rattle.stream.specs.Lines.{lines_of}
 use Rattle.stream.specs.Running.{Took}
 use Rattle.runs.specs.declared.standing.Standing.{Standing}

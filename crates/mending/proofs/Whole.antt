@@ -22,7 +22,6 @@ use Rattle.lines.specs.Fields.{field_read}
 use Rattle.lines.specs.Lines.{ended, due_line}
 use Rattle.text.specs.declared.fault.LineFault.{LineFault}
 use Rattle.text.specs.declared.fault.LineFault.TheVariants as fault
-use Rattle.text.specs.declared.fault.RunFault.TheVariants as run
 use Rattle.text.specs.Reading.{and_then, begins, fitting, number_of, packet_read, missed_read}
 use Rattle.text.proofs.Inverses.{then_ok, cond_ok, field_ok, number_read, symbols_parts}
 use Rattle.text.proofs.Symbols.{length_read}

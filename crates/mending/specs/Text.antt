@@ -16,7 +16,7 @@ use Rattle.text.specs.declared.fault.LineFault.{LineFault}
 use Rattle.text.specs.declared.fault.RunFault.TheVariants as run
 use Rattle.text.specs.Reading.{header_read}
 use Rattle.stream.specs.Lines.{lines_of}
-use Rattle.runs.specs.Whole.{SymbolOf, sums_of, form_of, fault_text, Read, reading, slot_read}
+use Rattle.runs.specs.Whole.{sums_of, form_of, fault_text, Read, reading, slot_read}
 use Rattle.mending.specs.Printing.{due_text, tally_text}
 
 -- the packet of each slot that arrived

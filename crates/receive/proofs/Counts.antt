@@ -3,7 +3,7 @@ use Rattle.std.proofs.Common.{◌≡◌, ◌+◌, Bool, List, [], ◌∷◌, ◌
 use Rattle.code.specs.declared.refusal.SlotRefusal.{SlotRefusal}
 use Rattle.receive.specs.declared.due.Due.{Due}
 use Rattle.receive.specs.declared.due.Verdict.{Verdict}
-use Rattle.receive.specs.Handing.{Answer, Reply, one}
+use Rattle.receive.specs.Handing.{Answer, Reply}
 use Rattle.receive.specs.Runs.{Event, slot, tally}
 use Rattle.receive.specs.Law.{take_if, slots, rows_given}
 

@@ -21,7 +21,7 @@ use Rattle.text.specs.Reading.{and_then, row_read}
 use Rattle.text.proofs.Inverses.{row_inverse, packet_inverse, missed_inverse}
 use Rattle.stream.specs.Lines.{Unended}
 use Rattle.runs.specs.Whole.{fault_text, Read, joining, reading, slot_read}
-use Rattle.sending.specs.Text.{slots_text, ending, list_text}
+use Rattle.sending.specs.Text.{slots_text, ending}
 use Rattle.mending.specs.Text.{came_in}
 use Rattle.mending.specs.Text as mend
 use Rattle.mending.specs.Printing.{tally_text}

@@ -1,5 +1,5 @@
 -- The faults of lines have positions that an X line has room for. Assumes nothing.
-use Rattle.std.proofs.Common.{◌≡◌, ℕ, zero, suc, ◌+◌, ◌*◌, ◌≤◌, Bool, true, false, cond, eqb, ltb, leb, List, [], ◌∷◌, length, take, drop, Some, None, Ok, Err, Option, Result, sym, refl, ap, ◌∙◌, subst, inl, inr, suc-mul, mul-le-mul, arith}
+use Rattle.std.proofs.Common.{◌≡◌, ℕ, zero, suc, ◌+◌, ◌*◌, ◌≤◌, Bool, true, false, cond, eqb, leb, List, [], ◌∷◌, length, take, drop, Some, None, Ok, Err, Option, Result, refl, ap, subst, suc-mul, mul-le-mul, arith}
 use Rattle.std.proofs.lemmas.Bool.{le-ltb, or_from}
 use Rattle.kinds.specs.Form.{Form}
 use Rattle.code.specs.declared.refusal.PutRefusal.{PutRefusal}
@@ -19,7 +19,7 @@ use Rattle.text.specs.declared.fault.LineFault.TheVariants as fault
 use Rattle.text.specs.declared.fault.RunFault.{RunFault}
 use Rattle.text.specs.declared.fault.RunFault.TheVariants as run
 use Rattle.text.specs.Faults.{line_number, line_position, run_line, run_number, run_position}
-use Rattle.text.specs.Reading.{and_then, of_field, of_sheet, begins, number_of, kind_of, header_of, header_read, symbols_read, symbols_of, row_into, packet_into, missed_read, fitting}
+use Rattle.text.specs.Reading.{and_then, of_field, of_sheet, begins, number_of, kind_of, header_read, symbols_read, symbols_of, row_into, packet_into, missed_read, fitting}
 use Rattle.runs.specs.Whole.{fault_text, unless}
 
 -- a fault of this reading lies at most so far right

@@ -1,5 +1,5 @@
 -- What a call that writes a line leaves to print. Assumes nothing.
-use Rattle.std.proofs.Common.{◌≡◌, ℕ, List, Some, None, Ok, Err, Option, Result, sym, ap, ◌∙◌}
+use Rattle.std.proofs.Common.{◌≡◌, ℕ, List, Some, None, Option, Result, ap, ◌∙◌}
 use Rattle.lines.specs.declared.write.WriteRefusal.{WriteRefusal}
 use Rattle.lines.specs.Writing.{Wrote}
 use Rattle.runs.specs.Whole.{unless, written_text}

@@ -13,7 +13,6 @@ use Rattle.runs.specs.declared.standing.SendLine.TheVariants as send
 use Rattle.runs.specs.declared.standing.MendLine.{MendLine}
 use Rattle.runs.specs.declared.standing.MendLine.TheVariants as mend
 use Rattle.text.specs.Reading.{and_then, header_read, row_into, packet_into, missed_read, symbols_or}
-use Rattle.runs.specs.Standings.{line_at}
 
 -- a line's letter; an empty line has none
 abbrev pub letter_of : List ℕ → Option ℕ

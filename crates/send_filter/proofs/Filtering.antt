@@ -1,5 +1,5 @@
 -- A whole text goes through a sending run. Assumes nothing.
-use Rattle.std.proofs.Common.{◌≡◌, ℕ, ◌≤◌, Bool, true, false, List, [], ◌++◌, length, drop, sym, refl, ap, ◌∙◌, subst, arith}
+use Rattle.std.proofs.Common.{◌≡◌, ℕ, true, false, List, [], ◌++◌, drop, sym, refl, ap, ◌∙◌, subst, arith}
 use Rattle.std.proofs.lemmas.Bool.{cond-true, le-leb}
 use Rattle.kinds.specs.Kind.{Kind}
 use Rattle.kinds.specs.Form.{Form}
@@ -16,7 +16,7 @@ use Rattle.stream.specs.Lines.{lines_of}
 use Rattle.stream.specs.Running.{Feeding, Finishing}
 use Rattle.stream.proofs.Whole.{fed_finished, fed_paused}
 use Rattle.sending.specs.declared.run.SendRun.{SendRun}
-use Rattle.sending.specs.Printing.{Lent, fit, rows_text}
+use Rattle.sending.specs.Printing.{fit, rows_text}
 use Rattle.sending.specs.Running.{stopped_at, stopped, Sound, rest_at, rest_of, NewRun}
 use Rattle.sending.specs.Text.{list_text}
 use Rattle.sending.proofs.Taking.{lent_path}

@@ -2,7 +2,6 @@
 use Rattle.std.specs.Prelude.{◌≡◌, ℕ, ◌≤◌, Bool, true, false, List, [], ◌++◌, length, drop, Some, None, Option}
 use Rattle.lines.specs.declared.header.Header.{Header}
 use Rattle.text.specs.declared.fault.LineFault.TheVariants as fault
-use Rattle.text.specs.declared.fault.RunFault.{RunFault}
 use Rattle.text.specs.declared.fault.RunFault.TheVariants as run
 use Rattle.stream.specs.Lines.{lines_of}
 use Rattle.runs.specs.declared.standing.Standing.{Standing}

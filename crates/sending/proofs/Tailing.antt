@@ -1,12 +1,12 @@
 -- A tail packet after the other. Assumes nothing.
-use Rattle.std.proofs.Common.{◌≡◌, ℕ, zero, suc, ◌+◌, ◌-◌, ◌<◌, ◌≤◌, ltb, leb, List, [], ◌∷◌, ◌++◌, length, Some, None, Ok, Err, vec_items, Option, Result, sym, refl, ap, ◌∙◌, subst, ap₂, inl, inr, arith}
+use Rattle.std.proofs.Common.{◌≡◌, ℕ, suc, ◌+◌, ◌-◌, ◌<◌, ◌≤◌, ltb, leb, List, [], ◌++◌, length, Some, None, Ok, Err, vec_items, Option, Result, sym, refl, ap, ◌∙◌, subst, ap₂, inl, inr, arith}
 use Rattle.std.proofs.lemmas.List.{append-nil, append_assoc}
 use Rattle.std.proofs.lemmas.Bool.{cases_eq, cond-true, cond-false, eq-eqb, ne_eqb, le-ltb, and_left}
 use Rattle.kinds.specs.Kind.{Kind}
 use Rattle.kinds.specs.Form.{Form}
 use Rattle.code.specs.declared.refusal.TailRefusal.{TailRefusal}
 use Rattle.code.specs.declared.sheet.Sheet.{Sheet}
-use Rattle.code.specs.Sheets.{T, n}
+use Rattle.code.specs.Sheets.{T}
 use Rattle.code.specs.Packets.{Rows, packet}
 use Rattle.code.proofs.Windows.{whole}
 use Rattle.line.specs.declared.line.SymbolLine.{SymbolLine}
@@ -14,13 +14,13 @@ use Rattle.line.proofs.Staying.{room_stays}
 use Rattle.transmit.specs.declared.sender.WindingSender.{WindingSender}
 use Rattle.transmit.specs.Keeping.{kept, with_row}
 use Rattle.transmit.specs.Refusing.{tail_refused}
-use Rattle.transmit.specs.Calls.{room, Passes, Drawn, drawing, TailCall, TailAt, TailWith, WindCall}
+use Rattle.transmit.specs.Calls.{room, Drawn, drawing, TailCall, TailAt, TailWith, WindCall}
 use Rattle.transmit.proofs.Allowing.{tail_allowed}
 use Rattle.lines.specs.Lines.{ended, packet_line}
 use Rattle.lines.specs.Writing.{fault_refused}
 use Rattle.text.specs.declared.fault.RunFault.{RunFault}
 use Rattle.text.specs.declared.fault.RunFault.TheVariants as run
-use Rattle.text.specs.Faults.{run_line, run_number, run_position}
+use Rattle.text.specs.Faults.{run_number}
 use Rattle.lines.specs.declared.header.Header.{Header}
 use Rattle.runs.specs.declared.standing.Standing.{Standing}
 use Rattle.runs.specs.declared.standing.Standing.TheVariants.{InRun}

@@ -1,6 +1,5 @@
 -- A whole run, with all that a sheet needs lent to it, prints the text of the rows that were read. Assumes nothing.
-use Rattle.std.proofs.Common.{◌≡◌, ℕ, zero, suc, ◌+◌, ◌-◌, ◌<◌, ◌≤◌, min, Bool, true, false, cond, not, eqb, ltb, leb, List, [], ◌∷◌, ◌++◌, length, get_or, Some, None, Ok, Err, Option, Result, sym, refl, ap, ◌∙◌, subst, ap₂, inl, inr, arith}
-use Rattle.std.specs.List.{range_with_len, flat_map}
+use Rattle.std.proofs.Common.{◌≡◌, ℕ, zero, suc, ◌+◌, ◌-◌, ◌<◌, ◌≤◌, min, cond, eqb, ltb, List, [], ◌∷◌, ◌++◌, length, get_or, Some, None, Ok, Err, Option, Result, sym, refl, ap, ◌∙◌, ap₂, inl, inr, arith}
 use Rattle.std.proofs.lemmas.List.{append-nil, append_assoc, length-append, get_or_at, get_or_append_left, get_or_past}
 use Rattle.std.proofs.lemmas.Bool.{cases_lt, cases_eq, cond-true, cond-false, eq-eqb, ne_eqb, le-ltb, lt-ltb, le-leb, lt-leb, not_from_true}
 use Rattle.kinds.specs.Kind.{Kind}
@@ -19,7 +18,7 @@ use Rattle.lines.specs.Lines.{ended, packet_line}
 use Rattle.text.specs.declared.fault.LineFault.{LineFault}
 use Rattle.text.specs.declared.fault.LineFault.TheVariants as fault
 use Rattle.text.specs.declared.fault.RunFault.TheVariants as run
-use Rattle.text.specs.Reading.{and_then, fitting, row_into, row_read}
+use Rattle.text.specs.Reading.{and_then, fitting, row_read}
 use Rattle.text.proofs.Inverses.{row_inverse}
 use Rattle.runs.specs.Whole.{fault_text, after_line, Read, joining, reading}
 use Rattle.sending.specs.Printing.{fit, put_or, slot_text, row_taken, after_tail, tail_text, rows_text}

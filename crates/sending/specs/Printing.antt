@@ -1,5 +1,5 @@
 -- What a sending run prints, line by line. Assumes nothing.
-use Rattle.std.specs.Prelude.{ℕ, zero, suc, ◌+◌, ◌*◌, cond, List, [], ◌∷◌, ◌++◌, length, Some, None, Ok, Err, Option, Result}
+use Rattle.std.specs.Prelude.{ℕ, zero, suc, ◌+◌, ◌*◌, List, [], ◌∷◌, ◌++◌, length, Some, None, Ok, Err, Option, Result}
 use Rattle.kinds.specs.Kind.{Kind}
 use Rattle.kinds.specs.Form.{Form}
 use Rattle.code.specs.declared.refusal.PutRefusal.{PutRefusal}

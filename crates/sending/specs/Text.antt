@@ -13,11 +13,10 @@ use Rattle.lines.specs.declared.header.Header.{Header}
 use Rattle.lines.specs.declared.header.SymbolKind.{SymbolKind}
 use Rattle.lines.specs.Lines.{ended, header_line}
 use Rattle.text.specs.declared.fault.LineFault.{LineFault}
-use Rattle.text.specs.declared.fault.LineFault.TheVariants as fault
 use Rattle.text.specs.declared.fault.RunFault.TheVariants as run
 use Rattle.text.specs.Reading.{header_read, row_read}
 use Rattle.stream.specs.Lines.{lines_of}
-use Rattle.runs.specs.Whole.{SymbolOf, sums_of, form_of, fault_text, Read, reading}
+use Rattle.runs.specs.Whole.{sums_of, form_of, fault_text, Read, reading}
 use Rattle.sending.specs.Printing.{slot_text}
 
 module _ {S : Type 0} (K : Kind S) (F : Form S) (p : Sheet) where

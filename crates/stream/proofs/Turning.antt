@@ -1,8 +1,8 @@
 -- A run that takes the lines of a text, turn by turn. Assumes nothing.
-use Rattle.std.proofs.Common.{◌≡◌, ℕ, zero, suc, ◌+◌, ◌-◌, ◌<◌, ◌≤◌, Bool, true, false, List, [], ◌∷◌, ◌++◌, length, take, drop, Some, None, sym, refl, ap, ◌∙◌, subst, add-one, arith}
-use Rattle.std.proofs.lemmas.List.{append-nil, append_assoc, drop-drop, drop_all}
+use Rattle.std.proofs.Common.{◌≡◌, ℕ, suc, ◌+◌, ◌<◌, ◌≤◌, Bool, true, false, List, [], ◌∷◌, ◌++◌, length, take, drop, Some, None, sym, refl, ap, ◌∙◌, subst, add-one, arith}
+use Rattle.std.proofs.lemmas.List.{append_assoc, drop-drop, drop_all}
 use Rattle.stream.specs.Lines.{last_line, lines_after, line_length, Unended}
-use Rattle.stream.specs.Running.{longest, Taken, Took, Refused, Holding, Held, Feeding, Finishing}
+use Rattle.stream.specs.Running.{longest, Took, Refused, Held, Feeding, Finishing}
 use Rattle.stream.proofs.Cutting.{goes_on, ends_line, first_line, last_some, both_unended, cut}
 
 differ : ◌≡◌ {A = Bool} false true → ⊥

@@ -1,5 +1,5 @@
 -- A text that is fed whole. Assumes nothing.
-use Rattle.std.proofs.Common.{◌≡◌, ℕ, ◌≤◌, Bool, true, false, List, [], ◌∷◌, ◌++◌, length, drop, sym, ap, ◌∙◌, ap₂, arith}
+use Rattle.std.proofs.Common.{◌≡◌, ℕ, Bool, true, false, List, [], ◌++◌, drop, sym, ap, ◌∙◌, ap₂, arith}
 use Rattle.std.proofs.lemmas.List.{append-nil, drop_all}
 use Rattle.stream.specs.Lines.{lines_after, lines_of}
 use Rattle.stream.specs.Running.{Feeding, Finishing}

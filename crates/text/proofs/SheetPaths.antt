@@ -3,7 +3,7 @@ use Rattle.std.proofs.Common.{◌≡◌, ℕ, ◌+◌, ◌-◌, ◌*◌, ◌/◌
 use mathlib.Core.HLevel.{is_prop→PathP}
 use native.Mathlib.Bridge.{le_prop}
 use native.Mathlib.Nat.{ℕ_set}
-use Rattle.code.specs.Making.{delay_of, sheet_refused, SheetOf, Makes}
+use Rattle.code.specs.Making.{delay_of, sheet_refused, Makes}
 use Rattle.code.specs.declared.sheet.Sheet.{Sheet}
 use Rattle.code.specs.declared.sheet.SheetRefusal.{SheetRefusal}
 use Rattle.text.specs.Sheets.{made_by, sheet_of}

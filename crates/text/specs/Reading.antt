@@ -1,5 +1,5 @@
 -- What a line reads as: its value, or the first refusal that holds. Assumes nothing.
-use Rattle.std.specs.Prelude.{ℕ, zero, suc, ◌+◌, ◌*◌, Bool, false, cond, List, [], ◌∷◌, ◌++◌, length, take, drop, Ok, Err, Result, ◌==◌}
+use Rattle.std.specs.Prelude.{ℕ, zero, suc, ◌+◌, ◌*◌, Bool, false, cond, List, [], ◌∷◌, length, take, drop, Ok, Err, Result, ◌==◌}
 use Rattle.kinds.specs.Form.{Form}
 use Rattle.code.specs.Sheets.{n}
 use Rattle.code.specs.declared.refusal.PutRefusal.TheVariants as put

@@ -1,16 +1,15 @@
 -- The parity symbols of a slot, block by block. Assumes nothing.
-use Rattle.std.proofs.Common.{◌≡◌, ℕ, ◌+◌, ◌-◌, ◌*◌, ◌/◌, ◌<◌, ◌≤◌, min, true, ltb, leb, ◌⊎◌, List, ◌++◌, map, length, get_or, take, drop, replicate, sym, refl, ap, ◌∙◌, ap₂, inl, inr, mul-le-mul_right, one-mul, arith}
+use Rattle.std.proofs.Common.{◌≡◌, ℕ, ◌+◌, ◌-◌, ◌*◌, ◌/◌, ◌<◌, ◌≤◌, min, ltb, leb, ◌⊎◌, List, length, get_or, take, drop, replicate, sym, ap, ◌∙◌, ap₂, inl, inr, mul-le-mul_right, one-mul, arith}
 use native.Mathlib.Nat.{add-div_right}
 use borrow.Rule.Slice.PartMut.{put_mid}
-use Rattle.std.specs.List.{range_with_len}
-use Rattle.std.proofs.lemmas.List.{length-append, length-take, length-take-le, length-drop, get_or_append_left, get_or-append_right, get_or-take, get_or-drop, length-replicate, get_or-replicate}
+use Rattle.std.proofs.lemmas.List.{length-append, length-take-le, length-drop, get_or_append_left, get_or-append_right, get_or-take, get_or-drop, length-replicate, get_or-replicate}
 use Rattle.std.proofs.lemmas.List.FromFn.{length-map-range_with_len, get_or-map-range_with_len, fill_by_all}
 use Rattle.std.proofs.lemmas.Bool.{cases_lt, cond-true, cond-false, and_from, le-leb, lt-leb, lt-ltb}
 use Rattle.kinds.specs.Kind.{Kind}
 use Rattle.kinds.proofs.Algebra.{zero-sum}
 use Rattle.kinds.proofs.Lists.{map_same}
 use Rattle.code.specs.declared.sheet.Sheet.{Sheet}
-use Rattle.code.specs.Sheets.{T, lag, column}
+use Rattle.code.specs.Sheets.{T, lag}
 use Rattle.code.specs.Packets.{Rows, brought, in_column}
 use Rattle.code.proofs.Numbers.{lag_below, lag_some}
 use Rattle.code.proofs.Carrying.{gathered}

@@ -1,5 +1,5 @@
 -- A sender agrees with the calls that were made on it. Assumes nothing.
-use Rattle.std.proofs.Common.{◌≡◌, ℕ, zero, suc, ◌+◌, ◌-◌, ◌<◌, ◌≤◌, min, List, [], ◌∷◌, ◌++◌, length, get_or, take, drop, Some, None, Ok, Err, Option, Result, sym, refl, ap, ◌∙◌, subst, ap₂, inl, inr, arith}
+use Rattle.std.proofs.Common.{◌≡◌, ℕ, ◌+◌, ◌<◌, ◌≤◌, min, List, [], ◌∷◌, ◌++◌, length, get_or, take, drop, Some, None, Ok, Err, Option, Result, sym, refl, ap, ◌∙◌, subst, ap₂, inl, inr, arith}
 use Rattle.std.proofs.lemmas.List.{append-nil, append_assoc, length-append, length-take, get_or_at, get_or_past}
 use Rattle.std.proofs.lemmas.Bool.{cases_eq, cond-true, cond-false, eq-eqb, ne_eqb}
 use Rattle.kinds.specs.Kind.{Kind}
@@ -10,14 +10,13 @@ use Rattle.code.specs.Sheets.{T}
 use Rattle.code.specs.Packets.{Rows, packet}
 use Rattle.code.proofs.Windows.{looks_back}
 use Rattle.line.specs.declared.line.SymbolLine.{SymbolLine}
-use Rattle.line.specs.Line.{contents, fitting}
+use Rattle.line.specs.Line.{fitting}
 use Rattle.line.proofs.Rings.{held_length, fitting_within}
 use Rattle.transmit.specs.declared.sender.Sender.{Sender}
 use Rattle.transmit.specs.declared.sender.WindingSender.{WindingSender}
-use Rattle.transmit.specs.declared.sender.Sent.{Sent}
 use Rattle.transmit.specs.Keeping.{need, kept, with_row}
 use Rattle.transmit.specs.Refusing.{put_refused, tail_refused}
-use Rattle.transmit.specs.Calls.{room, Put, Drawn, Passes, PutDone, PutDeclined, PutWith, PutAt, PutCall, WindCall, TailDone, TailDeclined, TailWith, TailAt, TailCall, EndCall}
+use Rattle.transmit.specs.Calls.{room, Put, Drawn, Passes, PutWith, PutAt, PutCall, WindCall, TailWith, TailAt, TailCall}
 use Rattle.transmit.specs.Runs.{Standing, taking, winding, ended, Event, put, wind, tail, end, Run, stop, put_call, wind_call, tail_call, end_call}
 use Rattle.transmit.specs.Law.{keep_if, rows_put, tails_given, used, list_of}
 

@@ -1,7 +1,6 @@
 -- The law over sending runs holds. Assumes nothing.
-use Rattle.std.proofs.Common.{◌≡◌, ℕ, ◌+◌, ◌<◌, ◌≤◌, leb, List, [], ◌∷◌, ◌++◌, length, get_or, drop, Some, None, Ok, Err, Option, Result, sym, refl, ap, ◌∙◌, subst, ap₂, inl, inr, arith}
-use Rattle.std.proofs.lemmas.List.{append-nil}
-use Rattle.std.proofs.lemmas.Bool.{cases_Bool, cond-true, cond-false, leb-false}
+use Rattle.std.proofs.Common.{◌≡◌, ℕ, ◌<◌, leb, List, [], ◌∷◌, ◌++◌, length, drop, Some, None, Ok, Err, Option, Result, sym, refl, ap, ◌∙◌, subst, inl, inr, arith}
+use Rattle.std.proofs.lemmas.Bool.{cases_Bool, cond-true, leb-false}
 use Rattle.kinds.specs.Kind.{Kind}
 use Rattle.code.specs.declared.refusal.PutRefusal.{PutRefusal}
 use Rattle.code.specs.declared.refusal.TailRefusal.{TailRefusal}
@@ -16,7 +15,7 @@ use Rattle.transmit.specs.Calls.{SenderMade, Put, Drawn, PutWith, PutAt, PutCall
 use Rattle.transmit.specs.Runs.{Standing, taking, winding, ended, Event, put, wind, tail, end, Run, stop, put_call, wind_call, tail_call, end_call}
 use Rattle.transmit.specs.Law.{rows_put, tails_given, used, list_of, packet_of, Law, Lawful}
 use Rattle.transmit.proofs.Allowing.{put_reason, tail_reason}
-use Rattle.transmit.proofs.Agreement.{Keeps, Takes, Winds, Agrees, packet_is, put_at, tail_at, agrees_run, own_put, own_tail, no_rows}
+use Rattle.transmit.proofs.Agreement.{Takes, Winds, Agrees, packet_is, put_at, tail_at, agrees_run, own_put, own_tail, no_rows}
 
 -- a line that has too few places lies over a window that is too short
 fitting_short : (need w : ℕ) → fitting need w < need → w < need

@@ -1,8 +1,7 @@
 -- A slot passes: its packet is written, and its row goes into the line. Assumes nothing.
-use Rattle.std.proofs.Common.{◌≡◌, ℕ, ◌+◌, ◌-◌, ◌*◌, ◌<◌, ◌≤◌, ltb, leb, List, [], ◌++◌, map, length, get_or, take, drop, None, Option, unwrap_or, sym, refl, ap, ◌∙◌, subst, ap₂, mul-le-mul_right, add-mul, one-mul, arith}
+use Rattle.std.proofs.Common.{◌≡◌, ℕ, ◌+◌, ◌-◌, ◌*◌, ◌<◌, ◌≤◌, ltb, leb, List, ◌++◌, length, get_or, drop, None, Option, unwrap_or, sym, refl, ap, ◌∙◌, subst, ap₂, mul-le-mul_right, add-mul, one-mul, arith}
 use borrow.Rule.Slice.PartMut.{put_mid}
-use Rattle.std.specs.List.{range_with_len}
-use Rattle.std.proofs.lemmas.List.{append-nil, length-append, length-drop, take_at, drop_at, drop_all}
+use Rattle.std.proofs.lemmas.List.{append-nil, length-drop, take_at, drop_at, drop_all}
 use Rattle.std.proofs.lemmas.List.FromFn.{fill_by_all}
 use Rattle.std.proofs.lemmas.Bool.{cond-true, cond-false, and_from, eq-eqb, ne_eqb, le-leb, lt-ltb}
 use Rattle.kinds.specs.Kind.{Kind}
@@ -10,13 +9,13 @@ use Rattle.kinds.proofs.Lists.{map_same}
 use Rattle.code.specs.declared.refusal.PutRefusal.{PutRefusal}
 use Rattle.code.specs.declared.refusal.TailRefusal.{TailRefusal}
 use Rattle.code.specs.declared.sheet.Sheet.{Sheet}
-use Rattle.code.specs.Sheets.{T, n, lag}
+use Rattle.code.specs.Sheets.{T, lag}
 use Rattle.code.specs.Packets.{packet, parity, in_column}
 use Rattle.code.proofs.Numbers.{lag_below, lag_some}
 use Rattle.code.proofs.Carrying.{gathered_same}
 use Rattle.code.proofs.Windows.{brought_same}
 use Rattle.line.specs.declared.line.SymbolLine.{SymbolLine}
-use Rattle.line.specs.Ring.{look, symbol_back, entered}
+use Rattle.line.specs.Ring.{symbol_back, entered}
 use Rattle.line.specs.Line.{contents, Stays}
 use Rattle.line.proofs.Rings.{look-latest, look-earlier}
 use Rattle.transmit.specs.Keeping.{need, kept, with_row, sums}

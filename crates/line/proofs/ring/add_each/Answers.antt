@@ -1,4 +1,4 @@
-use Rattle.std.proofs.Common.{◌≡◌, ◌-◌, ◌<◌, length, get_or, sym, ap, ◌∙◌, ap₂, arith}
+use Rattle.std.proofs.Common.{◌≡◌, ◌<◌, length, get_or, ap, ◌∙◌, ap₂, arith}
 use Rattle.line.specs.Ring.{held, symbol_back}
 use Rattle.line.proofs.Filling.{filled_read, filled_more, filled_all}
 use Rattle.line.proofs.ring.add_each.Goals as goal

@@ -1,4 +1,4 @@
-use Rattle.std.proofs.Common.{◌≡◌, ap, ◌∙◌, arith}
+use Rattle.std.proofs.Common.{ap, ◌∙◌, arith}
 use Rattle.line.specs.Ring.{held, symbol_back}
 use Rattle.line.proofs.Filling.{filled_more, filled_all}
 use Rattle.line.proofs.ring.copy_each.Goals as goal

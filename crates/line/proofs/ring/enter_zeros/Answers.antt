@@ -1,4 +1,4 @@
-use Rattle.std.proofs.Common.{◌≡◌, ℕ, ◌+◌, ◌-◌, ◌≤◌, length, take, drop, replicate, sym, refl, ap, ◌∙◌, subst, arith}
+use Rattle.std.proofs.Common.{◌≡◌, ℕ, ◌+◌, ◌-◌, ◌≤◌, length, take, drop, replicate, sym, ap, ◌∙◌, subst, arith}
 use Rattle.std.proofs.lemmas.List.{take_all, length-replicate, take-replicate, drop-replicate, length-take-le, length-drop}
 use Rattle.line.specs.Ring.{held, entered, Start}
 use Rattle.line.proofs.Rings.{entered_none, piece_more, held_empty, start_within}

@@ -1,6 +1,5 @@
-use Rattle.std.proofs.Common.{◌≡◌, ◌+◌, ◌≤◌, length, get_or, drop, None, sym, ap, ◌∙◌, ⊎_elim, arith}
+use Rattle.std.proofs.Common.{◌≡◌, ◌+◌, ◌≤◌, get_or, drop, None, sym, ap, ◌∙◌, ⊎_elim, arith}
 use Rattle.std.proofs.lemmas.List.{at_drop_more, at_drop_all}
-use Rattle.lines.specs.Fields.{number_in}
 use Rattle.lines.proofs.Numbers.{scan_is, too_wide}
 use Rattle.lines.proofs.Scans.{scanned, found, seen_room, seen_more}
 use Rattle.lines.proofs.field.number_of.Goals as goal

@@ -1,4 +1,4 @@
-use Rattle.std.proofs.Common.{◌≡◌, ◌^◌, ◌<◌, ◌≤◌, sym, ap, arith}
+use Rattle.std.proofs.Common.{◌≡◌, ◌^◌, ap, arith}
 use Rattle.lines.proofs.Rooms.{wide, room}
 use Rattle.lines.proofs.put.put_due_symbol.Goals as goal
 

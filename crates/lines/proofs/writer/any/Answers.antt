@@ -1,7 +1,6 @@
-use Rattle.std.proofs.Common.{◌≡◌, ◌+◌, ◌||◌, eqb, drop, sym, ap, ◌∙◌, arith}
+use Rattle.std.proofs.Common.{◌+◌, ◌||◌, drop, sym, ap, ◌∙◌}
 use Rattle.std.proofs.lemmas.List.{at_drop_more, at_drop_all}
 use Rattle.std.proofs.lemmas.Bool.{eq-eqb, ne_eqb}
-use Rattle.code.specs.Marks.{mark_number}
 use Rattle.code.specs.declared.mark.Mark.TheVariants.{Arrived}
 use Rattle.lines.specs.Lines.{has_mark}
 use Rattle.lines.proofs.writer.any.Goals as goal

@@ -1,8 +1,8 @@
-use Rattle.std.proofs.Common.{◌≡◌, ◌+◌, ◌*◌, false, ◌||◌, [], ◌∷◌, length, take, sym, refl, ap, ◌∙◌, arith}
+use Rattle.std.proofs.Common.{◌≡◌, ◌+◌, ◌*◌, [], ◌∷◌, length, ap, ◌∙◌, arith}
 use Rattle.std.proofs.lemmas.Bool.{le-ltb, or_from}
 use Rattle.lines.specs.Fields.{field}
 use Rattle.lines.specs.Lines.{ended, due_letter, due_fields, due_line}
-use Rattle.lines.specs.Writing.{due_refused, wrong}
+use Rattle.lines.specs.Writing.{due_refused}
 use Rattle.lines.proofs.Written.{right, no_refusal, written, two_pieces}
 use Rattle.lines.proofs.writer.write_due.Goals as goal
 

@@ -1,4 +1,4 @@
-use Rattle.std.proofs.Common.{◌≡◌, false, [], ◌∷◌, length, refl, arith}
+use Rattle.std.proofs.Common.{false, [], ◌∷◌, length, refl, arith}
 use Rattle.std.proofs.lemmas.Bool.{le-ltb, or_from}
 use Rattle.lines.specs.Fields.{field}
 use Rattle.lines.specs.Lines.{ended, tally_line}

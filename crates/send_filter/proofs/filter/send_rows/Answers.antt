@@ -1,10 +1,6 @@
-use Rattle.std.proofs.Common.{◌≡◌, ℕ, true, false, List, [], ◌++◌, length, drop, vec_items, sym, ap, ◌∙◌, subst, ap₂}
+use Rattle.std.proofs.Common.{◌++◌, length, vec_items, sym, ap, ◌∙◌}
 use Rattle.std.proofs.lemmas.List.{length-replicate}
-use Rattle.kinds.specs.Kind.{Kind}
-use Rattle.kinds.specs.Form.{Form}
 use Rattle.stream.specs.Lines.{lines_of}
-use Rattle.sending.specs.declared.run.SendRun.{SendRun}
-use Rattle.sending.specs.Running.{rest_of, Sound, stopped}
 use Rattle.send_filter.proofs.Filtering.{Through, through_end, through_pause, new_prints}
 use Rattle.send_filter.proofs.filter.send_rows.Goals as goal
 use Rattle.send_filter.proofs.filter.send_rows.Goals.{then-not-is_paused+in_ok-finish, else-not-is_paused}

@@ -1,7 +1,6 @@
-use Rattle.std.proofs.Common.{◌≡◌, ◌++◌, length, drop, vec_items, sym, ap, ◌∙◌}
+use Rattle.std.proofs.Common.{◌++◌, drop, vec_items, sym, ap, ◌∙◌}
 use Rattle.std.proofs.lemmas.List.{append-nil, take_rest}
 use Rattle.stream.specs.Lines.{lines_of}
-use Rattle.send_filter.specs.Opening.{opening_rest}
 use Rattle.sending.specs.Text.{body_text, send_text}
 use Rattle.send_filter.proofs.Headed.{body_follows, nothing_follows}
 use Rattle.send_filter.proofs.filter.send_text.Goals as goal

@@ -1,4 +1,4 @@
-use Rattle.std.proofs.Common.{◌≡◌, ◌+◌, ◌*◌, ◌/◌, ◌%◌, ◌<◌, min, replicate, sym, refl, ap, ◌∙◌, one-mul, arith}
+use Rattle.std.proofs.Common.{◌≡◌, ◌+◌, ◌*◌, min, replicate, sym, ap, ◌∙◌, one-mul, arith}
 use native.Mathlib.Nat.{add-mod_right, zero-mod, zero-div}
 use Rattle.transmit.specs.Keeping.{kept, sums}
 use Rattle.transmit.proofs.Adding.{no_sums, next_lag}

@@ -1,4 +1,4 @@
-use Rattle.std.proofs.Common.{◌≡◌, ℕ, ◌≤◌, length, drop, replicate, sym, ap, ◌∙◌, subst, rules}
+use Rattle.std.proofs.Common.{ℕ, ◌≤◌, length, drop, replicate, sym, ap, ◌∙◌, subst, rules}
 use Rattle.line.proofs.Rings.{held_zeros, fitting_within}
 use Rattle.line.proofs.line.SymbolLine.over.Goals as goal
 

@@ -1,4 +1,4 @@
-use Rattle.std.proofs.Common.{length, ap, ◌∙◌}
+use Rattle.std.proofs.Common.{ap, ◌∙◌}
 use Rattle.line.specs.Ring.{held, added}
 use Rattle.line.proofs.Rings.{cut_front}
 use Rattle.line.proofs.line.calls.add_front.Goals as goal

@@ -1,4 +1,4 @@
-use Rattle.std.proofs.Common.{length, ap, ◌∙◌}
+use Rattle.std.proofs.Common.{ap, ◌∙◌}
 use Rattle.line.specs.Ring.{held, look}
 use Rattle.line.proofs.Rings.{cut_front}
 use Rattle.line.proofs.line.calls.back_front.Goals as goal

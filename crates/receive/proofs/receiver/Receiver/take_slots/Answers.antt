@@ -1,4 +1,4 @@
-use Rattle.std.proofs.Common.{◌≡◌, ℕ, ◌+◌, ◌-◌, ◌*◌, ◌≤◌, Bool, true, false, cond, length, is_some, sym, refl, ap, ◌∙◌, arith, rules}
+use Rattle.std.proofs.Common.{◌≡◌, ℕ, ◌+◌, ◌*◌, ◌≤◌, Bool, true, false, cond, length, is_some, sym, refl, ap, ◌∙◌, arith, rules}
 use borrow.Author.Rules.{scaled_fits≤}
 use Rattle.code.specs.Sheets.{n}
 use Rattle.receive.specs.Calls.{room}

@@ -1,4 +1,4 @@
-use Rattle.std.proofs.Common.{◌≡◌, ◌-◌, true, length, replicate, sym, ◌∙◌}
+use Rattle.std.proofs.Common.{◌≡◌, true, length, replicate, sym, ◌∙◌}
 use Rattle.code.specs.declared.mark.Mark.{Mark}
 use Rattle.code.specs.Mending.{heard, marks_of}
 use Rattle.line.specs.Line.{contents}

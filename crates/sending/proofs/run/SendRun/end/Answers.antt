@@ -1,4 +1,4 @@
-use Rattle.std.proofs.Common.{length, vec_items, sym, ap, ◌∙◌}
+use Rattle.std.proofs.Common.{length, vec_items, sym, ap}
 use Rattle.sending.proofs.Tailing.{ended_in}
 use Rattle.sending.proofs.run.SendRun.end.Goals as goal
 

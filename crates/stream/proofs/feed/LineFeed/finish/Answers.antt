@@ -1,4 +1,4 @@
-use Rattle.std.proofs.Common.{◌≡◌, ◌<◌, [], length, vec_items, sym, arith}
+use Rattle.std.proofs.Common.{◌≡◌, length, vec_items, sym, arith}
 use Rattle.std.proofs.lemmas.List.{nil_from_length}
 use Rattle.std.proofs.lemmas.Bool.{eqb-true}
 use Rattle.stream.proofs.Turning.{nothing_held}
