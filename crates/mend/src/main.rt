@@ -12,6 +12,7 @@ use receive::window_len;
 use runs::filled;
 use std::alloc::Global;
 use std::io::{Read, Write};
+use std::process::ExitCode;
 use std::{env, fs};
 use stream::{LineFeed, LineRun};
 
@@ -99,10 +100,10 @@ fn run(rt: &HostRuntime) -> anyhow::Result<bool> {
     }
 }
 
-fn main(rt: HostRuntime) -> anyhow::Result<()> {
-    match run(&rt) {
-        Ok(true) => Ok(()),
-        Ok(false) => Err(anyhow!("the run ended with a fault")),
-        Err(error) => Err(error),
+fn main(rt: HostRuntime) -> anyhow::Result<ExitCode> {
+    if run(&rt)? {
+        Ok(ExitCode::SUCCESS)
+    } else {
+        Ok(ExitCode::FAILURE)
     }
 }

@@ -1,8 +1,7 @@
 -- What `mend` gives of the rows that were sent obeys the law.
 use Rattle.std.proofs.Common.{◌≡◌, ℕ, ◌+◌, ◌<◌, Bool, true, false, cond, not, ◌&&◌, ltb, ◌≢◌, ◌⊎◌, List, [], length, get_or, is_some, Some, None, sym, ap, inl, inr, arith}
-use Rattle.std.specs.List.{AllByRecursion as All}
+use Rattle.std.specs.List.{All}
 use Rattle.std.proofs.lemmas.List.FromFn.{fill_by_all}
-use Rattle.std.proofs.ByRecursion.{All-get_or}
 use Rattle.std.proofs.lemmas.Bool.{cases_lt, lt-ltb, cond-true, and_from, not_from_false}
 use Rattle.kinds.specs.Kind.{Kind}
 use Rattle.code.specs.declared.mark.Mark.TheVariants.{Lost}
@@ -61,5 +60,5 @@ module _ {S : Type 0} (K : Kind S) (p : Sheet) (rows : List (List S)) (missed : 
       row_of K p (arriving K p rows missed) j ≡ get_or rows j []
   as_sent fit group short j due =
       sym (fill_by_all (given K p (arriving K p rows missed) j) (get_or rows j []) p.row K.zero
-      (All-get_or (λ row. length row ≡ p.row) rows j [] due fit)
+      (fit j [] due)
       (λ b below. sym (own j b below (bursts group short j b due below))))

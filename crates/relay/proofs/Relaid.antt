@@ -1,7 +1,7 @@
 -- What `send` prints for a list of rows, and what `mend` reads of it after the hall, line by line.
 use Rattle.std.proofs.Common.{◌≡◌, ℕ, zero, suc, ◌+◌, ◌-◌, ◌<◌, ◌≤◌, min, Bool, true, false, cond, not, ◌&&◌, ltb, List, [], ◌∷◌, ◌++◌, map, length, Some, None, Ok, Option, Result, sym, refl, ap, ◌∙◌, ap₂, inl, inr, zero-add, arith}
 use mathlib.Core.Path.{fun_ext}
-use Rattle.std.specs.List.{range_with_len, flat_map, AllByRecursion as All}
+use Rattle.std.specs.List.{range_with_len, flat_map, AllByRecursion}
 use Rattle.std.proofs.lemmas.List.FromFn.{length-map-range_with_len, get_or-map-range_with_len}
 use Rattle.std.proofs.lemmas.List.{append_assoc, append-nil, map-append, get_or_past}
 use Rattle.std.proofs.lemmas.Bool.{cond-false, cases_lt, lt-ltb, le-ltb, and_left}
@@ -63,7 +63,7 @@ module _ (line : ℕ → List ℕ) where
       ∙ (sym (text_append (map line (range_with_len 0 m)) (map line (range_with_len m n)))
       ∙ ap text_of (sym (map-append line (range_with_len 0 m) (range_with_len m n)) ∙ ap (map line) (sym all)))
 
-  numbered_unended : ((t : ℕ) → Unended (line t)) → (ts : List ℕ) → All Unended (map line ts)
+  numbered_unended : ((t : ℕ) → Unended (line t)) → (ts : List ℕ) → AllByRecursion Unended (map line ts)
   numbered_unended u [] = tt
   numbered_unended u (t ∷ ts) = (u t, numbered_unended u ts)
 
@@ -83,7 +83,7 @@ module _ (line : ℕ → List ℕ) where
 
 module _ {S : Type 0} (K : Kind S) (F : Form S) (p : Sheet) where
   -- the R lines read as their rows
-  pub rows_read : (t : ℕ) (rows : List (List S)) → All (λ row. length row ≡ p.row) rows → t + length rows ≤ top_slots →
+  pub rows_read : (t : ℕ) (rows : List (List S)) → AllByRecursion (λ row. length row ≡ p.row) rows → t + length rows ≤ top_slots →
       reading (row_read F p) t (row_lines F t rows) ≡ all_of rows
   rows_read t [] fit h = refl
   rows_read t (row ∷ rows) fit h =
@@ -106,7 +106,7 @@ module _ {S : Type 0} (K : Kind S) (F : Form S) (p : Sheet) where
         ∙ append-nil (slots_text K F p rows m (T p)) in
         ap (λ x. slots_text K F p rows 0 m ++ x) tail ∙ two_runs slot_line m (T p)
 
-    pub slots_unended : (ts : List ℕ) → All Unended (map slot_line ts)
+    pub slots_unended : (ts : List ℕ) → AllByRecursion Unended (map slot_line ts)
     slots_unended ts = numbered_unended slot_line (λ t. of_symbols_line F 65 t (packet K p rows t) refl) ts
 
     module _ (missed : ℕ → Bool) where
@@ -122,7 +122,7 @@ module _ {S : Type 0} (K : Kind S) (F : Form S) (p : Sheet) where
       hall_unended_at true t = of_missed t
       hall_unended_at false t = of_symbols_line F 65 t (packet K p rows t) refl
 
-      pub hall_unended : (ts : List ℕ) → All Unended (map hall_line ts)
+      pub hall_unended : (ts : List ℕ) → AllByRecursion Unended (map hall_line ts)
       hall_unended ts = numbered_unended hall_line (λ t. hall_unended_at (missed t) t) ts
 
       slot_reads_at : (b : Bool) (t : ℕ) → t < top_slots →

@@ -1,6 +1,7 @@
 -- Both programs, one after the other.
 use Rattle.std.proofs.Common.{◌≡◌, ℕ, ◌+◌, ◌≤◌, Bool, List, ◌∷◌, ◌++◌, map, length, Ok, refl, ap, ◌∙◌, arith}
-use Rattle.std.specs.List.{range_with_len, AllByRecursion as All}
+use Rattle.std.specs.List.{range_with_len, All}
+use Rattle.std.proofs.lemmas.List.Elements.{recursion_from_All}
 use Rattle.code.specs.declared.sheet.Sheet.{Sheet}
 use Rattle.code.specs.Sheets.{T}
 use Rattle.code.specs.Refusals.{top_slots}
@@ -41,7 +42,7 @@ module _ (kind : SymbolKind) (p : Sheet) (rows : List (List (SymbolOf kind))) (m
         ap send.lines_text (lines_back (list_lines kind p rows) (of_header kind p, of_rows (form_of kind) 0 rows))
         ∙ (ap (λ x. send.headed_text x (row_lines (form_of kind) 0 rows)) header_reads
         ∙ (ap (λ x. ended (header_line kind p) ++ send.list_text (sums_of kind) (form_of kind) p x)
-        (rows_read (sums_of kind) (form_of kind) p 0 rows fit (omega arith))
+        (rows_read (sums_of kind) (form_of kind) p 0 rows (recursion_from_All _ rows fit) (omega arith))
         ∙ ap (λ x. ended (header_line kind p) ++ x)
         (all_slots (sums_of kind) (form_of kind) p (list_of (sums_of kind) rows) (length rows) few)))
 

@@ -1,7 +1,7 @@
 -- No line that is written holds byte 10, so that the lines of a text are those that it was made of.
 use Rattle.std.proofs.Common.{◌≡◌, ℕ, zero, suc, ◌+◌, ◌-◌, false, eqb, List, [], ◌∷◌, ◌++◌, map, length, replicate, refl, ap, ◌∙◌, arith}
 use Rattle.std.specs.Option.{option_map}
-use Rattle.std.specs.List.{AllByRecursion as All}
+use Rattle.std.specs.List.{AllByRecursion}
 use Rattle.std.proofs.lemmas.List.{append_assoc}
 use Rattle.std.proofs.lemmas.Bool.{cond-false, ne_eqb}
 use Rattle.kinds.specs.Form.{Form}
@@ -57,12 +57,12 @@ module _ {S : Type 0} (F : Form S) where
       one_more letter (field 8 number ++ symbol_fields F xs) ne
       (both_unended (field 8 number) (symbol_fields F xs) (of_field 8 number) (of_symbols xs))
 
-  pub of_rows : (t : ℕ) (rows : List (List S)) → All Unended (row_lines F t rows)
+  pub of_rows : (t : ℕ) (rows : List (List S)) → AllByRecursion Unended (row_lines F t rows)
   of_rows t [] = tt
   of_rows t (row ∷ rows) = (of_symbols_line 82 t row refl, of_rows (t + 1) rows)
 
 -- the lines of a text that was made of lines
-pub lines_back : (lines : List (List ℕ)) → All Unended lines → lines_of (text_of lines) ≡ lines
+pub lines_back : (lines : List (List ℕ)) → AllByRecursion Unended lines → lines_of (text_of lines) ≡ lines
 lines_back [] u = refl
 lines_back (line ∷ lines) u =
     ap lines_of (append_assoc line (10 ∷ []) (text_of lines))

@@ -1,6 +1,6 @@
 -- What `mend` prints for what `send` prints of a list of rows, where any slots are missed on the way. Assumes nothing.
-use Rattle.std.specs.Prelude.{◌≡◌, ℕ, ◌+◌, ◌<◌, ◌≤◌, Bool, false, cond, not, ◌&&◌, ◌≢◌, ◌⊎◌, List, [], ◌∷◌, ◌++◌, length, Some, None, nat_lt, slice_index_or}
-use Rattle.std.specs.List.{flat_map, AllByRecursion as All}
+use Rattle.std.specs.Prelude.{◌≡◌, ℕ, ◌+◌, ◌<◌, ◌≤◌, Bool, false, cond, not, ◌&&◌, ◌≢◌, ◌⊎◌, List, [], ◌∷◌, ◌++◌, length, Some, None, nat_lt, slice_index_or, All}
+use Rattle.std.specs.List.{flat_map}
 use Rattle.kinds.specs.Kind.{Kind}
 use Rattle.kinds.specs.Form.{Form}
 use Rattle.code.specs.declared.mark.Mark.TheVariants.{Lost}
