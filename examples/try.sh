@@ -1,8 +1,8 @@
 #!/bin/sh
-# Sends a list of exhibits through a hall in which slots 3, 4 and 5 are missed, and mends it. A program that is not built yet is
-# proved and built first.
+# Sends a list of exhibits through a hall in which slots 3, 4 and 5 are missed, and mends it. The two programs are proved and built
+# first, where that has not been done.
 cd "$(dirname "$0")/.." || exit 1
 for program in send mend; do
-    [ -x "crates/$program/out/$program" ] || (cd "crates/$program" && rt run > /dev/null) || exit 1
+    (cd "crates/$program" && rt run < stdin > /dev/null) || exit 1
 done
 crates/send/out/send examples/exhibits.txt | sed -E '/^A       [345]/s/^A(.{8}).*/M\1/' | tee /dev/stderr | crates/mend/out/mend
