@@ -1,10 +1,11 @@
 -- A window read as a ring. Assumes nothing.
-use Rattle.std.proofs.Common.{◌≡◌, ℕ, zero, suc, ◌+◌, ◌-◌, ◌<◌, ◌≤◌, min, leb, ◌⊎◌, List, [], ◌∷◌, ◌++◌, map, reverse, length, get_or, take, drop, set, replicate, Some, None, unwrap_or, sym, refl, ap, ◌∙◌, ap₂, inl, inr, arith}
+use Rattle.std.proofs.Common.{◌≡◌, ℕ, zero, suc, ◌+◌, ◌-◌, ◌<◌, ◌≤◌, min, leb, List, [], ◌∷◌, ◌++◌, map, reverse, length, get_or, take, drop, set, replicate, Some, unwrap_or, sym, refl, ap, ◌∙◌, ap₂, subst, inl, inr, arith}
 use borrow.Rule.Slice.PartMut.{put_mid}
-use Rattle.std.proofs.lemmas.List.{append-nil, append_assoc, reverse-append, length-append, length-take, length-drop, length-reverse, length-take-le, take-append-drop, take_at, take_all, take-take, drop_all, drop-drop, drop-append-le, get_or-reverse, get_or_append_left, get_or-append_right, get_or-drop, get_or-take, nil_from_length, set_split, ext_get_or, get_or-replicate, length-replicate}
+use Rattle.std.proofs.lemmas.List.{append-nil, append_assoc, reverse-append, length-append, length-take, length-drop, length-reverse, length-take-le, take-append-drop, take_at, take_all, take-take, drop_all, drop-drop, drop-take, drop-append-le, get_or-reverse, get_or_append_left, get_or-append_right, get_or-drop, get_or-take, set_split, ext_get_or, get_or-replicate, length-replicate}
+use Rattle.std.proofs.Math.Seq.{take-set-lt}
 use Rattle.std.proofs.lemmas.Slice.{take-put_mid, drop-put_mid}
-use Rattle.std.proofs.lemmas.Option.{slice_get-get_or, slice_get_past}
-use Rattle.std.proofs.lemmas.Bool.{cases_lt, cond_both, leb-true}
+use Rattle.std.proofs.lemmas.Option.{slice_get-get_or}
+use Rattle.std.proofs.lemmas.Bool.{cond_both, leb-true}
 use Rattle.std.specs.List.{range_with_len}
 use Rattle.std.proofs.lemmas.List.FromFn.{fill_by_all}
 use Rattle.kinds.specs.Kind.{Kind}
@@ -15,6 +16,10 @@ use Rattle.line.specs.Ring.{turned, held, entered, look, symbol_back, stretch, a
 pub start_within : (len h s : ℕ) → Start len h s → s ≤ len
 start_within len h s (inl p) = omega (arith, p.0, p.1)
 start_within len h s (inr p) = omega (arith, p.0, p.1)
+
+pub start_below : (len h s : ℕ) → 0 < len → Start len h s → s < len
+start_below len h s some (inl p) = omega (arith, p.0, p.1)
+start_below len h s some (inr p) = omega (arith, p.0, p.1)
 
 lies_within : (len h steps m at : ℕ) → m ≤ steps → steps ≤ len → Lies len h steps m at → at + m ≤ len
 lies_within len h steps m at short within lies = elim lies.2 [
@@ -80,39 +85,6 @@ module _ {S : Type 0} where
       ∙ take_append_take (length zs) (length zs) (reverse ys) (reverse xs ++ zs) (omega arith)
       ∙ ap (take (length zs)) (sym (append_assoc (reverse ys) (reverse xs) zs) ∙ ap (λ us. us ++ zs) (sym (reverse-append xs ys)))
 
-  take_add : (a b : ℕ) (xs : List S) → take (a + b) xs ≡ take a xs ++ take b (drop a xs)
-  take_add zero b xs = ap (λ n. take n xs) (let e : 0 + b ≡ b = omega arith in e)
-  take_add (suc a) b [] = ap (λ n. take n []) (let e : suc a + b ≡ suc (a + b) = omega arith in e) ∙ take_nil b
-    where
-      take_nil : (b : ℕ) → [] ≡ take {A = S} b []
-      take_nil zero = refl
-      take_nil (suc b) = refl
-  take_add (suc a) b (x ∷ xs) = ap (λ n. take n (x ∷ xs)) (let e : suc a + b ≡ suc (a + b) = omega arith in e) ∙ ap (λ ys. x ∷ ys) (take_add a b xs)
-
-  pub entered_none : (zs : List S) → zs ≡ entered [] zs
-  entered_none zs = sym (take_all (length zs) zs (omega arith))
-
-  -- nothing stays in a ring of no places
-  pub held_empty : (w xs : List S) (h : ℕ) → length w ≡ 0 → held 0 w ≡ entered xs (held h w)
-  held_empty w xs h e =
-      nil_from_length (held 0 w) (held_length 0 w ∙ e)
-      ∙ sym (nil_from_length (entered xs (held h w)) (entered-length xs (held h w) ∙ held_length h w ∙ e))
-
-  -- one piece more of all that goes in
-  pub piece_more : (w part all zs : List S) (h s size done : ℕ) → Start (length w) h s → part ≡ take ((done + size) - done) (drop done all) → done + size ≤ length all → s + size ≤ length w → held h w ≡ entered (take done all) zs → held (s + size) (put_mid s ((s + size) - s) w part) ≡ entered (take (done + size) all) zs
-  piece_more w part all zs h s size done from is fits room inv =
-      let n : (done + size) - done ≡ size = omega arith in
-      let m : (s + size) - s ≡ size = omega arith in
-      let long : length part ≡ size = ap length is ∙ ap (λ k. length (take k (drop done all))) n ∙ length-take-le size (drop done all) (omega (arith, length-drop done all)) in
-      let next : take (done + size) all ≡ take done all ++ part = take_add done size all ∙ ap (λ ys. take done all ++ ys) (sym (is ∙ ap (λ k. take k (drop done all)) n)) in
-      ap₂ (λ a b. held (s + a) (put_mid s b w part)) (sym long) (m ∙ sym long)
-      ∙ piece_entered w part h s from (omega arith) ∙ ap (entered part) inv ∙ entered_twice (take done all) part zs ∙ ap (λ ys. entered ys zs) (sym next)
-
-  pub look_none : (xs : List S) (n : ℕ) → (n ≡ 0) ⊎ (length xs < n) → look xs n ≡ None
-  look_none xs zero p = refl
-  look_none xs (suc n) (inl e) = absurd (omega arith)
-  look_none xs (suc n) (inr l) = slice_get_past xs n (omega arith)
-
   look_at : (xs : List S) (n : ℕ) (d : S) → 0 < n → n ≤ length xs → look xs n ≡ Some (get_or xs (n - 1) d)
   look_at xs zero d p q = absurd (omega arith)
   look_at xs (suc n) d p q =
@@ -169,26 +141,46 @@ module _ {S : Type 0} where
       let rest : drop (suc s) w ≡ drop 1 (drop s w) = ap (λ n. drop n w) (let e : suc s ≡ s + 1 = omega arith in e) ∙ sym (drop-drop 1 s w) in
       ap (held (s + 1)) (set_split w s x within ∙ ap (λ ys. take s w ++ (x ∷ ys)) rest) ∙ piece_entered w (x ∷ []) h s from (omega arith)
 
-  -- the front of a window, as it is cut off and put back
-  pub cut_front : (w : List S) (places e : ℕ) → e ≡ min places (length w) → take (e - 0) w ≡ take places w
-  cut_front w places e is =
-      elim (cases_lt places (length w)) [
-        | inl l ↦ ap (λ k. take k w) (let s : e - 0 ≡ places = omega arith in s)
-        | inr l ↦ take_all (e - 0) w (omega arith) ∙ sym (take_all places w (omega arith))
-      ]
+  -- what is written among the first places of a window is written into the list of these places
+  take_put_mid : (places s : ℕ) (w xs : List S) → s + length xs ≤ places → s + length xs ≤ length w → take places (put_mid s (length xs) w xs) ≡ put_mid s (length xs) (take places w) xs
+  take_put_mid places s w xs low fits =
+      let end : ℕ = s + length xs in
+      let more : ℕ = places - end in
+      let whole : List S = put_mid s (length xs) w xs in
+      let all : places ≡ end + more = omega arith in
+      let front : take end (take places whole) ≡ take s (take places w) ++ xs =
+      take-take end places whole low ∙ take-put_mid s (length xs) w xs end refl (omega arith) ∙ ap (λ ys. ys ++ xs) (sym (take-take s places w (omega arith))) in
+      let back : drop end (take places whole) ≡ drop end (take places w) =
+      ap (λ n. drop end (take n whole)) all ∙ drop-take end more whole
+      ∙ ap (take more) (drop-put_mid s (length xs) w xs end (omega arith) (omega arith) refl)
+      ∙ sym (drop-take end more w) ∙ ap (λ n. drop end (take n w)) (sym all) in
+      sym (take-append-drop end (take places whole)) ∙ ap₂ ◌++◌ front back ∙ append_assoc (take s (take places w)) xs (drop end (take places w))
+      ∙ ap (λ ys. take s (take places w) ++ (xs ++ ys)) (sym (drop-drop (length xs) s (take places w)))
 
-  pub put_front : (w ys : List S) (places e : ℕ) → e ≡ min places (length w) → length ys ≡ length (take (e - 0) w) → take places (ys ++ drop (e - 0) w) ≡ ys
-  put_front w ys places e is long =
-      let short : length ys ≡ min (e - 0) (length w) = long ∙ length-take (e - 0) w in
-      elim (cases_lt places (length w)) [
-        | inl l ↦ take_at ys (drop (e - 0) w) places (omega arith)
-        | inr l ↦ ap (λ zs. take places (ys ++ zs)) (drop_all (e - 0) w (omega arith)) ∙ ap (take places) (append-nil ys) ∙ take_all places ys (omega arith)
-      ]
+  -- a line takes one symbol in ..
+  pub symbol_put : (w : List S) (places len h s : ℕ) (x : S) → len ≡ length (held h (take places w)) → 0 < len → Start len h s → held (s + 1) (take places (set w s x)) ≡ entered (x ∷ []) (held h (take places w))
+  symbol_put w places len h s x is some from =
+      let long : len ≡ length (take places w) = is ∙ held_length h (take places w) in
+      let within : s < length (take places w) = omega (arith, start_below len h s some from) in
+      ap (held (s + 1)) (take-set-lt places w s x (omega (arith, length-take places w)))
+      ∙ one_entered (take places w) x h s (subst (λ (n : ℕ). Start n h s) long from) within
 
-  -- what is done to the front is done to what the line holds
-  pub front_held : (F : List S → List S) (w after : List S) (places e r h : ℕ) → e ≡ min places (length w) → length after ≡ length (take (e - 0) w) → held r after ≡ F (held h (take (e - 0) w)) → held r (take places (after ++ drop (e - 0) w)) ≡ F (held h (take places w))
-  front_held F w after places e r h is long made =
-      ap (held r) (put_front w after places e is long) ∙ made ∙ ap (λ xs. F (held h xs)) (cut_front w places e is)
+  -- .. or a piece
+  pub piece_put : (w xs : List S) (places len h s size : ℕ) → len ≡ length (held h (take places w)) → Start len h s → length xs ≡ size → s + size ≤ len → held (s + size) (take places (put_mid s ((s + size) - s) w xs)) ≡ entered xs (held h (take places w))
+  piece_put w xs places len h s size is from wide fits =
+      let long : len ≡ length (take places w) = is ∙ held_length h (take places w) in
+      let m : (s + size) - s ≡ length xs = omega arith in
+      let room : s + length xs ≤ length (take places w) = omega arith in
+      ap₂ (λ n k. held (s + n) (take places (put_mid s k w xs))) (sym wide) m
+      ∙ ap (held (s + length xs)) (take_put_mid places s w xs (omega (arith, length-take places w)) (omega (arith, length-take places w)))
+      ∙ piece_entered (take places w) xs h s (subst (λ (n : ℕ). Start n h s) long from) room
+
+  -- .. which leaves what lies past its places
+  pub piece_past : (w xs : List S) (places len h s size : ℕ) → len ≡ length (held h (take places w)) → length xs ≡ size → s + size ≤ len → drop places (put_mid s ((s + size) - s) w xs) ≡ drop places w
+  piece_past w xs places len h s size is wide fits =
+      let long : len ≡ length (take places w) = is ∙ held_length h (take places w) in
+      let low : s + size ≤ min places (length w) = omega (arith, length-take places w) in
+      drop-put_mid s ((s + size) - s) w xs places (omega arith) (omega arith) (omega arith)
 
   reverse-replicate : (m : ℕ) (z : S) → reverse (replicate m z) ≡ replicate m z
   reverse-replicate m z =
@@ -204,10 +196,6 @@ module _ {S : Type 0} where
 
 pub fitting_within : (places window : ℕ) → fitting places window ≤ window
 fitting_within places window = cond_both (leb places window) places 0 (λ n. n ≤ window) (λ e. leb-true places window e) (λ e. omega arith)
-
-pub start_below : (len h s : ℕ) → 0 < len → Start len h s → s < len
-start_below len h s some (inl p) = omega (arith, p.0, p.1)
-start_below len h s some (inr p) = omega (arith, p.0, p.1)
 
 module _ {S : Type 0} where
   -- the symbols that went in last, and those before them

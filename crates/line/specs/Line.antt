@@ -8,9 +8,13 @@ abbrev pub fitting : ℕ → ℕ → ℕ
 fitting places window = cond (nat_le places window) places 0
 
 module _ {S : Type 0} where
+  -- the places that a line runs over
+  abbrev pub ring : SymbolLine S → List S
+  ring l = take l.places l.window.now
+
   -- what a line holds, the latest symbol first
   abbrev pub contents : SymbolLine S → List S
-  contents l = held l.head (take l.places l.window.now)
+  contents l = held l.head (ring l)
 
   -- what lies past the places of the line
   abbrev pub beyond : SymbolLine S → List S

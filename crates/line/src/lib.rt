@@ -2,7 +2,7 @@
 #![tactic(auto)]
 
 mod line;
-mod ring;
+mod zeros;
 
 pub use line::SymbolLine;
-pub use ring::clear;
+pub use zeros::clear;

@@ -1,4 +1,5 @@
-// A symbol line over a lent window. Its methods pass the window to functions over the slice.
+// A symbol line over a lent window. Its places are a ring: the oldest symbol stands at the head, and the next one
+// overwrites it.
 mod calls;
 
 #[derive(Drop)]
