@@ -10,6 +10,6 @@ pub mod Grouping
 pub mod Windows
 pub mod Standing
 pub mod Cases
-pub mod Blocks
+pub mod Entries
 pub mod Sums
 pub mod Construction
