@@ -1,6 +1,7 @@
 pub mod Numbers
 pub mod Carrying
 pub mod Pieces
+pub mod Walking
 pub mod Arrivals
 pub mod Soundness
 pub mod Changes

@@ -9,10 +9,21 @@ abbrev pub size : Sheet → (first : ℕ) → ℕ
 size p first = min p.parity (p.row - first)
 
 -- the blocks of a row on this sheet from symbol `first` on
-abbrev pub BlocksFrom : Sheet → (first : ℕ) → Blocks → Type 0
-BlocksFrom p first s = (s.sheet ≡ p) × (s.first ≡ first)
+pub record BlocksFrom (p : Sheet) (first : ℕ) (s : Blocks) : Type 0 where
+  pub sheet : s.sheet ≡ p
+  pub first_is : s.first ≡ first
 
--- the next block is the one at which they begin, and then come those after it; past the row there is none
+-- the block at which blocks begin, and those after it
+pub record AtBlock (s : Blocks) (b : Block) (t : Blocks) : Type 0 where
+  pub sheet : b.sheet ≡ s.sheet
+  pub first : b.first ≡ s.first
+  pub rest : BlocksFrom s.sheet (s.first + s.sheet.parity) t
+
+-- past the row there is no block more
+pub record NoBlock (s t : Blocks) : Type 0 where
+  pub past : s.sheet.row ≤ s.first
+  pub rest : BlocksFrom s.sheet s.first t
+
 abbrev pub NextBlock : Blocks → Option Block → Blocks → Type 0
-NextBlock s None t = (s.sheet.row ≤ s.first) × BlocksFrom s.sheet s.first t
-NextBlock s (Some b) t = (b.sheet ≡ s.sheet) × (b.first ≡ s.first) × BlocksFrom s.sheet (s.first + s.sheet.parity) t
+NextBlock s None t = NoBlock s t
+NextBlock s (Some b) t = AtBlock s b t

@@ -6,7 +6,7 @@ use crate::sheet::Sheet;
 mod calls;
 
 // The block of a row on this sheet that begins with symbol `first`, which is carried `lag` slots after its row.
-#[derive(Clone, Copy)]
+#[derive(Clone, Copy, Debug, PartialEq, Eq)]
 pub struct Block {
     pub sheet: Sheet,
     pub first: u32,
