@@ -13,19 +13,24 @@ module _ {p : Sheet} {s : Blocks} {b : Block} {t : Blocks} (on : s.sheet ≡ p) 
   pub rest_on : t.sheet ≡ p
   rest_on = at.rest.sheet ∙ on
 
-  row_of : b.sheet.row ≡ p.row
-  row_of = ap (λ (q : Sheet). q.row) block_on
+  pub row_on : b.sheet.row ≡ p.row
+  row_on = ap (λ (q : Sheet). q.row) block_on
 
-  parities : b.sheet.parity ≡ s.sheet.parity
-  parities = ap (λ (q : Sheet). q.parity) at.sheet
+  pub parity_on : b.sheet.parity ≡ p.parity
+  parity_on = ap (λ (q : Sheet). q.parity) block_on
+
+  pub here : min s.first p.row ≡ b.first
+  here = omega (arith, row_on, at.first, b.within)
+
+  pub there : min (b.first + p.parity) p.row ≡ min t.first p.row
+  there = omega (arith, ap (λ (q : Sheet). q.parity) on, at.first, at.rest.first_is)
 
   module _ {X : Type 0} (f : Sheet → ℕ → X) where
     pub to_block : f p (min s.first p.row) ≡ f b.sheet b.first
-    to_block = ap₂ f (sym block_on) (let e : min s.first p.row ≡ b.first = omega (arith, row_of, at.first, b.within) in e)
+    to_block = ap₂ f (sym block_on) here
 
     pub past_block : f b.sheet (min (b.first + b.sheet.parity) b.sheet.row) ≡ f p (min t.first p.row)
-    past_block =
-        ap₂ f block_on (let e : min (b.first + b.sheet.parity) b.sheet.row ≡ min t.first p.row = omega (arith, row_of, parities, at.first, at.rest.first_is) in e)
+    past_block = ap₂ f block_on (ap₂ (λ r k. min (b.first + r) k) parity_on row_on ∙ there)
 
 module _ {p : Sheet} {s : Blocks} {X : Type 0} (f : ℕ → X) where
   pub from_first : BlocksFrom p 0 s → f (min s.first p.row) ≡ f 0

@@ -9,11 +9,12 @@ use Rattle.kinds.proofs.Algebra.{zero-sum}
 use Rattle.kinds.proofs.Lists.{map_same}
 use Rattle.code.specs.declared.block.Block.{Block}
 use Rattle.code.specs.declared.sheet.Sheet.{Sheet}
-use Rattle.code.specs.Sheets.{T, lag, column}
+use Rattle.code.specs.Blocks.{size}
+use Rattle.code.specs.Sheets.{T, lag}
 use Rattle.code.specs.Packets.{Rows, brought, in_column}
 use Rattle.code.proofs.Numbers.{lag_below, lag_some}
 use Rattle.code.proofs.Carrying.{gathered}
-use Rattle.code.proofs.Pieces.{Begins, size_of, block-lag, block-column, stretch_outside, stretch_inside}
+use Rattle.code.proofs.Pieces.{Begins, block-lag, block-column, stretch_outside, stretch_inside}
 use Rattle.line.specs.declared.line.SymbolLine.{SymbolLine}
 use Rattle.line.specs.Ring.{symbol_back, added}
 use Rattle.line.specs.Line.{contents}
@@ -36,10 +37,6 @@ module _ {S : Type 0} (a k : ℕ) (xs ys : List S) (d : S) (within : a + k ≤ l
       get_or-append_right (take a xs) _ a i d front (omega arith) ∙ get_or-append_right ys _ k (i - a) d long (omega arith)
       ∙ get_or-drop k (drop a xs) ((i - a) - k) d ∙ get_or-drop a xs (k + ((i - a) - k)) d
       ∙ ap (λ j. get_or xs j d) (let e : a + (k + ((i - a) - k)) ≡ i = omega arith in e)
-
--- the column at which a block begins
-pub at_column : (b : Block) → column b.sheet b.first ≡ b.sheet.parity - b.sheet.row
-at_column b = omega (arith, block-column b.sheet b.first (b.within, b.whole) b.first (omega arith) (omega (arith, b.within, b.sheet.parities.0)))
 
 module _ {S : Type 0} (K : Kind S) (p : Sheet) (line : SymbolLine S) (t : ℕ) where
   -- what a line of rows brings to the next slot
@@ -74,26 +71,26 @@ module _ {S : Type 0} (K : Kind S) (b : Block) (line : SymbolLine S) (t : ℕ) w
   abbrev c₀ : ℕ
   c₀ = p.parity - p.row
 
-  abbrev size : ℕ
-  size = size_of p first
+  abbrev many : ℕ
+  many = size p first
 
-  next : first + size ≡ min (first + p.parity) p.row
+  next : first + many ≡ min (first + p.parity) p.row
   next = omega (arith, begins.0)
 
-  inside : (c : ℕ) → c₀ ≤ c → c < c₀ + size → so_far c (min (first + p.parity) p.row) ≡ K.sum (brought K p (kept K p t line) t (first + (c - c₀))) (so_far c first)
-  inside c low high = ap (so_far c) (sym next) ∙ stretch_inside K p (kept K p t line) t first c₀ size c (block-column p first begins) low high
+  inside : (c : ℕ) → c₀ ≤ c → c < c₀ + many → so_far c (min (first + p.parity) p.row) ≡ K.sum (brought K p (kept K p t line) t (first + (c - c₀))) (so_far c first)
+  inside c low high = ap (so_far c) (sym next) ∙ stretch_inside K p (kept K p t line) t first c₀ many c (block-column p first begins) low high
 
-  outside : (c : ℕ) → (c < c₀) ⊎ (c₀ + size ≤ c) → so_far c (min (first + p.parity) p.row) ≡ so_far c first
-  outside c out = ap (so_far c) (sym next) ∙ stretch_outside K p (kept K p t line) t first c₀ size c (block-column p first begins) out
+  outside : (c : ℕ) → (c < c₀) ⊎ (c₀ + many ≤ c) → so_far c (min (first + p.parity) p.row) ≡ so_far c first
+  outside c out = ap (so_far c) (sym next) ∙ stretch_outside K p (kept K p t line) t first c₀ many c (block-column p first begins) out
 
-  its_lag : (c : ℕ) → c₀ ≤ c → c < c₀ + size → lag p (first + (c - c₀)) ≡ since
+  its_lag : (c : ℕ) → c₀ ≤ c → c < c₀ + many → lag p (first + (c - c₀)) ≡ since
   its_lag c low high = block-lag p first begins (first + (c - c₀)) (omega arith) (omega arith) ∙ sym b.carried
 
   -- a block of rows before row 0 adds nothing
   pub too_early : t < since → sums K p (kept K p t line) t first ≡ sums K p (kept K p t line) t (min (first + p.parity) p.row)
   too_early young = map_same _ _ p.parity K.zero (λ c _. elim (cases_lt c c₀) [
     | inl l ↦ sym (outside c (inl l))
-    | inr l ↦ elim (cases_lt c (c₀ + size)) [
+    | inr l ↦ elim (cases_lt c (c₀ + many)) [
       | inr h ↦ sym (outside c (inr h))
       | inl h ↦
           sym (inside c l h ∙ ap (λ x. K.sum x (so_far c first)) (brought_none K p line t (first + (c - c₀)) (omega (arith, its_lag c l h)))
@@ -103,34 +100,34 @@ module _ {S : Type 0} (K : Kind S) (b : Block) (line : SymbolLine S) (t : ℕ) w
 
   -- the block that the line has adds its symbols
   pub one_block : (place part : List S) → since ≤ t → length place ≡ p.parity → place ≡ sums K p (kept K p t line) t first →
-      part ≡ added K (contents line) (since * p.row - first) (take ((c₀ + size) - c₀) (drop c₀ place)) →
-      put_mid c₀ ((c₀ + size) - c₀) place part ≡ sums K p (kept K p t line) t (min (first + p.parity) p.row)
+      part ≡ added K (contents line) (since * p.row - first) (take ((c₀ + many) - c₀) (drop c₀ place)) →
+      put_mid c₀ ((c₀ + many) - c₀) place part ≡ sums K p (kept K p t line) t (min (first + p.parity) p.row)
   one_block place part old long was wrote =
       let z : S = K.zero in
-      let wide : (c₀ + size) - c₀ ≡ size = omega arith in
-      let fits : c₀ + ((c₀ + size) - c₀) ≤ length place = omega arith in
-      let cut : length (take ((c₀ + size) - c₀) (drop c₀ place)) ≡ (c₀ + size) - c₀ = length-take-le ((c₀ + size) - c₀) (drop c₀ place) (omega (arith, length-drop c₀ place)) in
-      let part_long : length part ≡ (c₀ + size) - c₀ = ap length wrote ∙ length-map-range_with_len _ 0 _ ∙ cut in
-      let whole_long : length (put_mid c₀ ((c₀ + size) - c₀) place part) ≡ p.parity =
-      length-append (take c₀ place) _ ∙ ap₂ ◌+◌ (front c₀ ((c₀ + size) - c₀) place part z fits part_long) (length-append part _ ∙ ap₂ ◌+◌ part_long (length-drop ((c₀ + size) - c₀) (drop c₀ place) ∙ ap (λ x. x - ((c₀ + size) - c₀)) (length-drop c₀ place)))
-      ∙ (let e : c₀ + (((c₀ + size) - c₀) + ((length place - c₀) - ((c₀ + size) - c₀))) ≡ p.parity = omega arith in e) in
+      let wide : (c₀ + many) - c₀ ≡ many = omega arith in
+      let fits : c₀ + ((c₀ + many) - c₀) ≤ length place = omega arith in
+      let cut : length (take ((c₀ + many) - c₀) (drop c₀ place)) ≡ (c₀ + many) - c₀ = length-take-le ((c₀ + many) - c₀) (drop c₀ place) (omega (arith, length-drop c₀ place)) in
+      let part_long : length part ≡ (c₀ + many) - c₀ = ap length wrote ∙ length-map-range_with_len _ 0 _ ∙ cut in
+      let whole_long : length (put_mid c₀ ((c₀ + many) - c₀) place part) ≡ p.parity =
+      length-append (take c₀ place) _ ∙ ap₂ ◌+◌ (front c₀ ((c₀ + many) - c₀) place part z fits part_long) (length-append part _ ∙ ap₂ ◌+◌ part_long (length-drop ((c₀ + many) - c₀) (drop c₀ place) ∙ ap (λ x. x - ((c₀ + many) - c₀)) (length-drop c₀ place)))
+      ∙ (let e : c₀ + (((c₀ + many) - c₀) + ((length place - c₀) - ((c₀ + many) - c₀))) ≡ p.parity = omega arith in e) in
       let had : (c : ℕ) → c < p.parity → get_or place c z ≡ so_far c first = λ c l. ap (λ ys. get_or ys c z) was ∙ get_or-map-range_with_len (λ i. so_far i first) 0 p.parity c c z l (omega arith) in
-      fill_by_all (λ c. so_far c (min (first + p.parity) p.row)) (put_mid c₀ ((c₀ + size) - c₀) place part) p.parity z whole_long (λ c below. elim (cases_lt c c₀) [
-        | inl l ↦ written_before c₀ ((c₀ + size) - c₀) place part z fits part_long c l ∙ had c below ∙ sym (outside c (inl l))
-        | inr l ↦ elim (cases_lt c (c₀ + size)) [
-          | inr h ↦ written_after c₀ ((c₀ + size) - c₀) place part z fits part_long c (omega arith) ∙ had c below ∙ sym (outside c (inr h))
+      fill_by_all (λ c. so_far c (min (first + p.parity) p.row)) (put_mid c₀ ((c₀ + many) - c₀) place part) p.parity z whole_long (λ c below. elim (cases_lt c c₀) [
+        | inl l ↦ written_before c₀ ((c₀ + many) - c₀) place part z fits part_long c l ∙ had c below ∙ sym (outside c (inl l))
+        | inr l ↦ elim (cases_lt c (c₀ + many)) [
+          | inr h ↦ written_after c₀ ((c₀ + many) - c₀) place part z fits part_long c (omega arith) ∙ had c below ∙ sym (outside c (inr h))
           | inl h ↦
               let i : ℕ = c - c₀ in
               let o : ℕ = first + (c - c₀) in
               let same : lag p (first + (c - c₀)) ≡ since = its_lag c l h in
-              let of : i < length (take ((c₀ + size) - c₀) (drop c₀ place)) = omega (arith, cut) in
+              let of : i < length (take ((c₀ + many) - c₀) (drop c₀ place)) = omega (arith, cut) in
               let symbol : symbol_back z (contents line) ((since * p.row - first) - (c - c₀)) ≡ brought K p (kept K p t line) t (first + (c - c₀)) =
               ap (symbol_back z (contents line)) (let e : (since * p.row - first) - (c - c₀) ≡ since * p.row - (first + (c - c₀)) = omega arith in e)
               ∙ sym (brought_back K p line t o (omega (arith, begins.0)) (omega (arith, same)) ∙ ap (λ x. symbol_back z (contents line) (x * p.row - (first + (c - c₀)))) same) in
-              let held : get_or (take ((c₀ + size) - c₀) (drop c₀ place)) (c - c₀) z ≡ so_far c first =
-              get_or-take ((c₀ + size) - c₀) (drop c₀ place) (c - c₀) z (omega arith) ∙ get_or-drop c₀ place (c - c₀) z
+              let held : get_or (take ((c₀ + many) - c₀) (drop c₀ place)) (c - c₀) z ≡ so_far c first =
+              get_or-take ((c₀ + many) - c₀) (drop c₀ place) (c - c₀) z (omega arith) ∙ get_or-drop c₀ place (c - c₀) z
               ∙ ap (λ j. get_or place j z) (let e : c₀ + (c - c₀) ≡ c = omega arith in e) ∙ had c below in
-              written_inside c₀ ((c₀ + size) - c₀) place part z fits part_long c l (omega arith)
+              written_inside c₀ ((c₀ + many) - c₀) place part z fits part_long c l (omega arith)
               ∙ ap (λ ys. get_or ys i z) wrote ∙ get_or-map-range_with_len _ 0 _ i i z of (omega arith)
               ∙ ap₂ K.sum symbol held ∙ sym (inside c l h)
         ]

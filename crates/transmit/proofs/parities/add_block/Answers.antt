@@ -2,7 +2,8 @@ use Rattle.std.proofs.Common.{◌+◌, ◌-◌, ◌*◌, take, drop, ◌∙◌, 
 use borrow.Rule.Slice.PartMut.{put_mid}
 use Rattle.line.specs.Ring.{added}
 use Rattle.line.specs.Line.{contents}
-use Rattle.transmit.proofs.Adding.{too_early, one_block, enough, at_column}
+use Rattle.code.proofs.Pieces.{at_column}
+use Rattle.transmit.proofs.Adding.{too_early, one_block, enough}
 use Rattle.transmit.proofs.parities.add_block.Goals as goal
 
 pub returns-then-slots-block : goal.returns-then-slots-block
