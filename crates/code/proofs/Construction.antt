@@ -9,7 +9,7 @@ use Rattle.code.specs.Packets.{Rows, brought, parity, in_column}
 use Rattle.code.specs.Published.{published, sum_below, times, earlier, AsPublished}
 use Rattle.code.proofs.Numbers.{lag_below}
 use Rattle.code.proofs.Carrying.{gathered, gathered_taken, gathered_left}
-use Rattle.code.proofs.Blocks.{entries}
+use Rattle.code.proofs.Entries.{entries}
 use Rattle.code.proofs.Sums.{sum_more, sum_same, sum_one, sum-turned}
 
 either_way : (x y : ℕ) → eqb x y ≡ eqb y x

@@ -1,6 +1,7 @@
 pub mod Numbers
 pub mod Carrying
 pub mod Pieces
+pub mod Walking
 pub mod Arrivals
 pub mod Soundness
 pub mod Changes
@@ -10,6 +11,6 @@ pub mod Grouping
 pub mod Windows
 pub mod Standing
 pub mod Cases
-pub mod Blocks
+pub mod Entries
 pub mod Sums
 pub mod Construction

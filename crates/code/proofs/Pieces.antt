@@ -1,9 +1,11 @@
 -- A row taken block by block. Assumes nothing.
-use Rattle.std.proofs.Common.{◌≡◌, ℕ, zero, suc, ◌+◌, ◌-◌, ◌*◌, ◌/◌, ◌%◌, ◌<◌, ◌≤◌, min, leb, ◌⊎◌, sym, ap, ◌∙◌, inl, inr, mod-eq_of_lt, div-add-mod', arith}
+use Rattle.std.proofs.Common.{◌≡◌, ℕ, zero, suc, ◌+◌, ◌-◌, ◌*◌, ◌/◌, ◌%◌, ◌<◌, ◌≤◌, leb, ◌⊎◌, sym, ap, ◌∙◌, subst, inl, inr, mod-eq_of_lt, div-add-mod', arith}
 use native.Mathlib.Nat.{div-eq_of_lt-le, mul-add-mod_self_right}
 use Rattle.std.proofs.lemmas.Bool.{cases_Bool, cases_eq, cond-true, cond-false, leb-true, leb-false, eq-eqb, ne_eqb}
 use Rattle.kinds.specs.Kind.{Kind}
+use Rattle.code.specs.declared.block.Block.{Block}
 use Rattle.code.specs.declared.sheet.Sheet.{Sheet}
+use Rattle.code.specs.Blocks.{size}
 use Rattle.code.specs.Sheets.{lag, column}
 use Rattle.code.specs.Packets.{Rows, brought, in_column}
 use Rattle.code.proofs.Carrying.{gathered, gathered_taken, gathered_left}
@@ -12,22 +14,30 @@ use Rattle.code.proofs.Carrying.{gathered, gathered_taken, gathered_left}
 abbrev pub Begins : Sheet → ℕ → Type 0
 Begins p first = (first < p.row) × (first % p.parity ≡ 0)
 
--- the symbols that it has
-abbrev pub size_of : Sheet → ℕ → ℕ
-size_of p first = min p.parity (p.row - first)
+-- so does a block of a row on that sheet
+module _ (b : Block) {p : Sheet} (on : b.sheet ≡ p) where
+  pub block_begins : Begins p b.first
+  block_begins =
+      (omega (arith, b.within, ap (λ (q : Sheet). q.row) on), subst (λ (q : Sheet). b.first % q.parity ≡ 0) on b.whole)
+
+  pub block_size : size b.sheet b.first ≡ size p b.first
+  block_size = ap (λ (q : Sheet). size q b.first) on
+
+  pub block_carried : b.lag ≡ (1 + b.first / p.parity) * p.burst
+  block_carried = subst (λ (q : Sheet). b.lag ≡ (1 + b.first / q.parity) * q.burst) on b.carried
 
 module _ (p : Sheet) (first : ℕ) (begins : Begins p first) where
   whole : first / p.parity * p.parity ≡ first
   whole = omega (arith, div-add-mod' first p.parity, begins.1)
 
   -- its symbols have one lag ..
-  pub block-lag : (b : ℕ) → first ≤ b → b < first + size_of p first → lag p b ≡ (1 + first / p.parity) * p.burst
+  pub block-lag : (b : ℕ) → first ≤ b → b < first + size p first → lag p b ≡ (1 + first / p.parity) * p.burst
   block-lag b low high =
       let below : b < (first / p.parity + 1) * p.parity = omega (arith, whole) in
       ap (λ q. (1 + q) * p.burst) (div-eq_of_lt-le {k = first / p.parity} p.parity {m = b} (omega (arith, whole)) below)
 
   -- .. and stand in columns in a row
-  pub block-column : (b : ℕ) → first ≤ b → b < first + size_of p first → column p b ≡ (p.parity - p.row) + (b - first)
+  pub block-column : (b : ℕ) → first ≤ b → b < first + size p first → column p b ≡ (p.parity - p.row) + (b - first)
   block-column b low high = elim (cases_Bool (leb p.parity p.row)) [
     | inl w ↦
         let long : p.parity ≤ p.row = leb-true p.parity p.row w in
@@ -41,6 +51,10 @@ module _ (p : Sheet) (first : ℕ) (begins : Begins p first) where
         let none : first ≡ 0 = sym (mod-eq_of_lt (let l : first < p.parity = omega (arith, begins.0) in l)) ∙ begins.1 in
         cond-false _ _ _ w ∙ (let e : (p.parity - p.row) + b ≡ (p.parity - p.row) + (b - first) = omega arith in e)
   ]
+
+-- the column at which a block begins
+pub at_column : (b : Block) → column b.sheet b.first ≡ b.sheet.parity - b.sheet.row
+at_column b = omega (arith, block-column b.sheet b.first (b.within, b.whole) b.first (omega arith) (omega (arith, b.within, b.sheet.parities.0)))
 
 module _ {S : Type 0} (K : Kind S) (p : Sheet) (rows : Rows S) (t m c₀ : ℕ) where
   -- a stretch of symbols in columns in a row adds one symbol to each of these columns ..

@@ -1,4 +1,5 @@
 pub mod Sheets
+pub mod Blocks
 pub mod Making
 pub mod Packets
 pub mod Refusals

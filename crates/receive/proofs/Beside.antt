@@ -1,5 +1,5 @@
 -- What a slot carries beside a block, taken block by block. Assumes nothing.
-use Rattle.std.proofs.Common.{◌≡◌, ℕ, zero, suc, ◌+◌, ◌-◌, ◌*◌, ◌/◌, ◌<◌, ◌≤◌, min, max, Bool, true, false, cond, not, ◌&&◌, ◌||◌, eqb, ◌≢◌, List, ◌++◌, map, length, get_or, take, drop, replicate, sym, refl, ap, ◌∙◌, ap₂, inl, inr, div-add-mod', arith}
+use Rattle.std.proofs.Common.{◌≡◌, ℕ, zero, suc, ◌+◌, ◌-◌, ◌*◌, ◌/◌, ◌<◌, ◌≤◌, min, Bool, true, false, cond, not, ◌&&◌, ◌||◌, eqb, ◌≢◌, List, ◌++◌, map, length, get_or, take, drop, replicate, sym, refl, ap, ◌∙◌, ap₂, inl, inr, div-add-mod', arith}
 use native.Mathlib.Nat.{div-eq_of_lt-le}
 use Rattle.std.specs.List.{range_with_len}
 use Rattle.std.proofs.lemmas.List.{length-append, length-drop, length-take-le, length-replicate, get_or_append_left, get_or-append_right, get_or-drop, get_or-take, get_or-replicate}
@@ -16,7 +16,8 @@ use Rattle.code.specs.Packets.{Rows, brought}
 use Rattle.code.specs.Mending.{History, heard, got, beside, known, all_known}
 use Rattle.code.proofs.Carrying.{gathered, gathered_taken, gathered_left}
 use Rattle.code.proofs.Pieces.{Begins, block-lag, block-column}
-use Rattle.receive.specs.Blocks.{size, sums_beside, known_beside}
+use Rattle.code.specs.Blocks.{size}
+use Rattle.receive.specs.Blocks.{sums_beside, known_beside}
 
 -- a front of a list is written, and all of it is as f says
 pub front_written : {X : Type 0} (f : ℕ → X) (w ys : List X) (e n : ℕ) (d : X) → length w ≡ n → e ≤ n → length ys ≡ e → ((i : ℕ) → i < e → get_or ys i d ≡ f i) → ((i : ℕ) → e ≤ i → i < n → get_or w i d ≡ f i) → ys ++ drop (e - 0) w ≡ map f (range_with_len 0 n)
@@ -174,7 +175,7 @@ module _ {S : Type 0} (K : Kind S) (p : Sheet) (h : History S) (s first other : 
       heard_known came = kept_known apart (λ i l. knows i l ∙ came)
 
       -- the two blocks have so many columns in common
-      module _ (end : ℕ) (common : end ≡ min p.parity (p.row - max first other)) where
+      module _ (end : ℕ) (common : end ≡ min (size p first) (size p other)) where
         end_first : end ≤ size p first
         end_first = omega arith
 

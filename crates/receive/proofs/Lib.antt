@@ -11,3 +11,4 @@ pub mod Stepping
 pub mod Settling
 pub mod Driving
 pub mod Bursting
+pub mod Judging

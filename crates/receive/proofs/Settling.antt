@@ -18,7 +18,8 @@ use Rattle.receive.specs.declared.due.Verdict.{Verdict}
 use Rattle.receive.specs.declared.table.SlotState.{SlotState}
 use Rattle.receive.specs.Memory.{recalled}
 use Rattle.receive.proofs.Reading.{got_back}
-use Rattle.receive.specs.Blocks.{size, of_block, sums_beside, known_beside, settled}
+use Rattle.code.specs.Blocks.{size}
+use Rattle.receive.specs.Blocks.{of_block, sums_beside, known_beside, settled}
 use Rattle.receive.specs.Handing.{verdict, count, first, judged, is_mended, is_lost}
 
 -- a list of equals, as a function has it

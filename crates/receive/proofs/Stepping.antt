@@ -1,31 +1,23 @@
 -- A loop over the blocks of a row. Assumes nothing.
-use Rattle.std.proofs.Common.{◌≡◌, ℕ, ◌+◌, ◌-◌, ◌*◌, ◌/◌, ◌%◌, ◌<◌, ◌≤◌, min, List, ◌++◌, map, length, take, sym, ap, ◌∙◌, ap₂, inl, inr, add-mul, one-mul, arith}
-use native.Mathlib.Nat.{zero-div, add-mod_right, add-div_right}
+use Rattle.std.proofs.Common.{◌≡◌, ℕ, ◌+◌, ◌-◌, ◌<◌, ◌≤◌, min, List, ◌++◌, map, length, take, sym, ap, ◌∙◌, subst, ap₂, inl, inr, arith}
 use borrow.Rule.Slice.PartMut.{put_mid}
 use Rattle.std.specs.List.{range_with_len}
-use Rattle.std.proofs.lemmas.List.{length-append, get_or_append_left, get_or-append_right}
+use Rattle.std.proofs.lemmas.List.{take_all, length-append, get_or_append_left, get_or-append_right}
 use Rattle.std.proofs.lemmas.Slice.{take-put_mid}
 use Rattle.std.proofs.lemmas.List.FromFn.{length-map-range_with_len, get_or-map-range_with_len, fill_by_all}
 use Rattle.std.proofs.lemmas.Bool.{cases_lt}
+use Rattle.code.specs.declared.block.Block.{Block}
+use Rattle.code.specs.declared.block.Blocks.{Blocks}
 use Rattle.code.specs.declared.sheet.Sheet.{Sheet}
+use Rattle.code.specs.Blocks.{size, AtBlock, NoBlock}
 use Rattle.code.proofs.Numbers.{lag_below}
+use Rattle.code.proofs.Pieces.{block_begins, block_carried}
+use Rattle.code.proofs.Walking.{block_on, here, there, past_last}
+use Rattle.receive.specs.Blocks.{of_block}
 
-module _ (p : Sheet) where
-  pub lag_none : p.burst ≡ (1 + 0 / p.parity) * p.burst
-  lag_none = sym (ap (λ x. (1 + x) * p.burst) (zero-div p.parity) ∙ one-mul p.burst)
-
-  pub whole_more : (first : ℕ) → first % p.parity ≡ 0 → (first + p.parity) % p.parity ≡ 0
-  whole_more first e = add-mod_right first p.parity ∙ e
-
-  pub lag_more : (first lag : ℕ) → lag ≡ (1 + first / p.parity) * p.burst → lag + p.burst ≡ (1 + (first + p.parity) / p.parity) * p.burst
-  lag_more first lag e =
-      ap (λ x. x + p.burst) e
-      ∙ sym (ap (λ x. (1 + x) * p.burst) (add-div_right first p.parities.0) ∙ ap (λ x. x * p.burst) (let a : 1 + (first / p.parity + 1) ≡ (1 + first / p.parity) + 1 = omega arith in a)
-      ∙ add-mul (1 + first / p.parity) 1 p.burst ∙ ap (λ x. (1 + first / p.parity) * p.burst + x) (one-mul p.burst))
-
-  -- a block of a row is carried at most T slots after it
-  pub lag_within : (first lag : ℕ) → first < p.row → lag ≡ (1 + first / p.parity) * p.burst → lag ≤ p.delay
-  lag_within first lag below e = omega (arith, lag_below p first below)
+-- a block of a row is carried at most T slots after it
+pub lag_within : (b : Block) (p : Sheet) → b.sheet ≡ p → b.lag ≤ p.delay
+lag_within b p on = omega (arith, block_carried b on, lag_below p b.first (block_begins b on).0)
 
 -- what is so of the first a, and of the m after them, is so of all of them
 pub counted-append : {X : Type 0} (f : ℕ → X) (a m : ℕ) (d : X) → map f (range_with_len 0 a) ++ map (λ i. f (a + i)) (range_with_len 0 m) ≡ map f (range_with_len 0 (a + m))
@@ -42,15 +34,26 @@ counted-append f a m d =
           ∙ ap f (let e : a + (i - a) ≡ i = omega arith in e)
     ])
 
+-- the first m places hold what f says
+abbrev pub Filled : {X : Type 0} → (ℕ → X) → List X → ℕ → Type 0
+Filled f w m = take m w ≡ map f (range_with_len 0 m)
+
 -- one block more of a row is written
-pub block_more : {X : Type 0} (p : Sheet) (f : ℕ → X) (w ys : List X) (first start end : ℕ) (d : X) → first < p.row → length w ≡ p.row → start ≡ first → end ≡ min (first + p.parity) p.row →
-    take (min first p.row) w ≡ map f (range_with_len 0 (min first p.row)) → ys ≡ map (λ i. f (first + i)) (range_with_len 0 (min p.parity (p.row - first))) →
-    take (min (first + p.parity) p.row) (put_mid start (end - start) w ys) ≡ map f (range_with_len 0 (min (first + p.parity) p.row))
-block_more p f w ys first start end d below long at to was wrote =
-    let m : ℕ = min p.parity (p.row - first) in
-    let part : length ys ≡ min p.parity (p.row - first) = ap length wrote ∙ length-map-range_with_len (λ i. f (first + i)) 0 m in
-    let now : min first p.row ≡ first = omega arith in
-    let next : first + min p.parity (p.row - first) ≡ min (first + p.parity) p.row = omega arith in
-    take-put_mid start (end - start) w ys (min (first + p.parity) p.row) (omega arith) (omega arith)
-    ∙ ap₂ ◌++◌ (ap (λ i. take i w) (at ∙ sym now) ∙ was ∙ ap (λ i. map f (range_with_len 0 i)) now) wrote
-    ∙ counted-append f first m d ∙ ap (λ i. map f (range_with_len 0 i)) next
+pub block_more : {X : Type 0} (p : Sheet) (f : ℕ → X) (w ys : List X) {s t : Blocks} {b : Block} (on : s.sheet ≡ p) (at : AtBlock s b t) (end : ℕ) (d : X) →
+    length w ≡ p.row → end ≡ b.first + size p b.first → Filled f w (min s.first p.row) → ys ≡ of_block p b.first f →
+    Filled f (put_mid b.first (end - b.first) w ys) (min t.first p.row)
+block_more p f w ys {s} {t} {b} on at end d long to was wrote =
+    let m : ℕ = size p b.first in
+    let below : b.first < p.row = (block_begins b (block_on on at)).0 in
+    let part : length ys ≡ size p b.first = ap length wrote ∙ length-map-range_with_len (λ i. f (b.first + i)) 0 m in
+    let next : b.first + size p b.first ≡ min t.first p.row = (let e : b.first + size p b.first ≡ min (b.first + p.parity) p.row = omega arith in e) ∙ there on at in
+    let before : take b.first w ≡ map f (range_with_len 0 b.first) = subst (λ (a : ℕ). Filled f w a) (here on at) was in
+    take-put_mid b.first (end - b.first) w ys (min t.first p.row) (omega arith) (omega arith)
+    ∙ ap₂ ◌++◌ before wrote
+    ∙ counted-append f b.first m d ∙ ap (λ i. map f (range_with_len 0 i)) next
+
+-- past the last block the row is
+pub blocks_written : {X : Type 0} (p : Sheet) (f : ℕ → X) (w : List X) {s t : Blocks} (on : s.sheet ≡ p) (none : NoBlock s t) → length w ≡ p.row → Filled f w (min s.first p.row) → w ≡ map f (range_with_len 0 p.row)
+blocks_written p f w {s} on none long was =
+    let all : Filled f w p.row = subst (λ (m : ℕ). Filled f w m) (past_last {s = s} (λ (m : ℕ). m) on none) was in
+    sym (take_all p.row w (omega arith)) ∙ all

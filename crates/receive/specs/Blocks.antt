@@ -1,16 +1,13 @@
 -- A missed row taken block by block: the symbols of a block have one carrying slot, and stand in columns in a row. Assumes nothing.
-use Rattle.std.specs.Prelude.{ℕ, ◌+◌, ◌-◌, min, Bool, cond, List, map}
+use Rattle.std.specs.Prelude.{ℕ, ◌+◌, Bool, cond, List, map}
 use Rattle.std.specs.List.{range_with_len}
 use Rattle.kinds.specs.Kind.{Kind, total}
 use Rattle.code.specs.declared.mark.Mark.{Mark}
 use Rattle.code.specs.declared.mark.Mark.TheVariants.{Mended, Lost}
 use Rattle.code.specs.declared.sheet.Sheet.{Sheet}
+use Rattle.code.specs.Blocks.{size}
 use Rattle.code.specs.Packets.{carried}
 use Rattle.code.specs.Mending.{History, got, beside, all_known}
-
--- how many symbols the block has that begins with this one
-abbrev pub size : Sheet → (first : ℕ) → ℕ
-size p first = min p.parity (p.row - first)
 
 -- what f has for each symbol of that block
 abbrev pub of_block : {X : Type 0} → Sheet → (first : ℕ) → (ℕ → X) → List X

@@ -1,69 +1,36 @@
 // The row that falls due, and what became of it.
-ghost use Rattle.std.specs.Prelude.{◌≡◌, ◌+◌, ◌<◌, ◌≤◌, length, if◌then◌else◌};
-ghost use Rattle.receive.specs.Handing.{verdict, judged, is_mended, is_lost};
+ghost use Rattle.std.specs.Prelude.{◌≡◌, ◌≤◌, length};
+ghost use Rattle.std.specs.List.{count_by, position};
+ghost use Rattle.receive.specs.Handing.{is_lost, verdict};
 
 use code::Mark;
 
 // The verdict on a row: all of it arrived; or so many symbols were mended; or some are lost, the first of them at a place.
-#[derive(Clone, Copy)]
+#[derive(Clone, Copy, Debug, PartialEq, Eq)]
 pub enum Verdict {
     Whole,
     Mended(u8),
     Lost { mended: u8, lost: u8, first: u8 },
 }
 
-#[derive(Clone, Copy)]
+#[derive(Clone, Copy, Debug, PartialEq, Eq)]
 pub struct Due {
     pub row: u32,
     pub verdict: Verdict,
 }
 
-// What a stretch of marks holds: how many are mended and lost, and the place of the first lost one.
-#[derive(Clone, Copy)]
-struct Seen {
-    mended: u8,
-    lost: u8,
-    first: u8,
+// How many symbols have this mark.
+fn marked(marks: &[Mark], mark: Mark) -> usize
+    ensures { result ≡ count_by (λ x. ⟦<Mark as PartialEq>⟧.eq x mark) marks.now }
+{
+    marks.iter().filter(|x| **x == mark).count()
 }
 
-// One more mark before the stretch.
-fn before(mark: Mark, seen: Seen) -> Seen
-    requires { (seen.mended < 255) × (seen.lost < 255) × (seen.first < 255) }
-    ensures { (result.mended ≡ (if is_mended mark then 1 else 0) + seen.mended) × (result.lost ≡ (if is_lost mark then 1 else 0) + seen.lost) × (result.first ≡ (if is_lost mark then 0 else 1 + seen.first)) }
+// The place of the first lost symbol.
+fn first_lost(marks: &[Mark]) -> Option<usize>
+    ensures { result ≡ position is_lost marks.now }
 {
-    match mark {
-        Mark::Arrived => Seen {
-            mended: seen.mended,
-            lost: seen.lost,
-            first: 1 + seen.first,
-        },
-        Mark::Mended => Seen {
-            mended: 1 + seen.mended,
-            lost: seen.lost,
-            first: 1 + seen.first,
-        },
-        Mark::Lost => Seen {
-            mended: seen.mended,
-            lost: 1 + seen.lost,
-            first: 0,
-        },
-    }
-}
-
-fn judge(seen: Seen) -> Verdict
-    ensures { result ≡ judged seen.mended seen.lost seen.first }
-{
-    if 0 < seen.lost {
-        Verdict::Lost {
-            mended: seen.mended,
-            lost: seen.lost,
-            first: seen.first,
-        }
-    } else if 0 < seen.mended {
-        Verdict::Mended(seen.mended)
-    } else {
-        Verdict::Whole
-    }
+    marks.iter().position(|mark| *mark == Mark::Lost)
 }
 
 // The verdict on a row with these marks.
@@ -71,15 +38,14 @@ pub(crate) fn verdict_of(marks: &[Mark]) -> Verdict
     requires { length marks.now ≤ 48 }
     ensures { result ≡ verdict marks.now }
 {
-    let mut seen = Seen {
-        mended: 0,
-        lost: 0,
-        first: 0,
-    };
-    let mut i = marks.len();
-    while 0 < i {
-        i -= 1;
-        seen = before(marks[i], seen);
+    let mended = marked(marks, Mark::Mended) as u8;
+    match first_lost(marks) {
+        Some(first) => Verdict::Lost {
+            mended,
+            lost: marked(marks, Mark::Lost) as u8,
+            first: first as u8,
+        },
+        None if 0 < mended => Verdict::Mended(mended),
+        None => Verdict::Whole,
     }
-    judge(seen)
 }

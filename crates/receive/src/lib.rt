@@ -2,7 +2,6 @@
 #![tactic(auto)]
 
 mod bursts;
-mod counters;
 mod due;
 mod receiver;
 mod table;

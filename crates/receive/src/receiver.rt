@@ -1,6 +1,8 @@
 // A receiver takes slots, each arrived or missed, and hands out rows.
-use crate::counters::Counters;
+ghost use Rattle.std.specs.Prelude.{◌+◌, ◌≤◌};
+
 use crate::table::SlotTable;
+use crate::tally::Tally;
 use code::Sheet;
 use line::SymbolLine;
 
@@ -13,7 +15,9 @@ pub use calls::window_len;
 #[derive(Drop)]
 pub struct Receiver<'w, S> {
     sheet: Sheet,
-    counters: Counters,
+    counters: Tally,
     table: SlotTable,
     line: SymbolLine<'w, S>,
+    ghost top: { counters.slots ≤ 1000000 },
+    ghost rows: { (counters.whole + counters.mended) + counters.lost ≤ counters.slots },
 }

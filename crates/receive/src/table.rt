@@ -3,7 +3,7 @@ ghost use Rattle.std.specs.Prelude.{◌≡◌, ◌%◌, length, set, replicate, 
 ghost use Rattle.receive.specs.Memory.{came_in};
 
 // What became of a slot.
-#[derive(Clone, Copy)]
+#[derive(Clone, Copy, Debug, PartialEq, Eq)]
 pub enum SlotState {
     Arrived,
     Missed,
@@ -36,9 +36,6 @@ impl SlotTable {
     pub(crate) fn came(&self, slot: u32) -> bool
         ensures { result ≡ came_in (slice_index_or self.now.states (slot % 512) SlotState.Arrived) }
     {
-        match self.states[(slot % 512) as usize] {
-            SlotState::Arrived => true,
-            SlotState::Missed => false,
-        }
+        self.states[(slot % 512) as usize] == SlotState::Arrived
     }
 }

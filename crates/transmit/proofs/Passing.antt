@@ -1,7 +1,5 @@
 -- A slot passes: its packet is written, and its row goes into the line. Assumes nothing.
-use Rattle.std.proofs.Common.{◌≡◌, ℕ, ◌+◌, ◌-◌, ◌*◌, ◌<◌, ◌≤◌, ltb, leb, List, ◌++◌, length, get_or, drop, None, Option, unwrap_or, sym, refl, ap, ◌∙◌, subst, ap₂, mul-le-mul_right, add-mul, one-mul, arith}
-use borrow.Rule.Slice.PartMut.{put_mid}
-use Rattle.std.proofs.lemmas.List.{append-nil, length-drop, take_at, drop_at, drop_all}
+use Rattle.std.proofs.Common.{◌≡◌, ℕ, ◌+◌, ◌-◌, ◌*◌, ◌<◌, ◌≤◌, ltb, leb, List, ◌++◌, length, get_or, None, Option, unwrap_or, sym, refl, ap, ◌∙◌, subst, ap₂, mul-le-mul_right, add-mul, one-mul, arith}
 use Rattle.std.proofs.lemmas.List.FromFn.{fill_by_all}
 use Rattle.std.proofs.lemmas.Bool.{cond-true, cond-false, and_from, eq-eqb, ne_eqb, le-leb, lt-ltb}
 use Rattle.kinds.specs.Kind.{Kind}
@@ -69,15 +67,6 @@ module _ {S : Type 0} (K : Kind S) (p : Sheet) (t : ℕ) (before after : SymbolL
 
       pub passes : (place' : List S) → place' ≡ pushed ++ sums K p old t p.row → Stays before after → Passes K p t before after row place'
       passes place' is stays = record { written = is ∙ written; latest = latest; earlier = earlier; stays = stays }
-
--- a place whose front and then whose rest is written
-pub placed : {S : Type 0} (place front rest : List S) (k : ℕ) → length front ≡ k → length place ≡ k + length rest →
-    put_mid k (length place - k) (front ++ drop (k - 0) place) rest ≡ front ++ rest
-placed place front rest k long whole =
-    let cut : length (drop k (front ++ drop (k - 0) place)) ≡ length place - k =
-    ap length (drop_at front (drop (k - 0) place) k long) ∙ length-drop (k - 0) place ∙ (let e : length place - (k - 0) ≡ length place - k = omega arith in e) in
-    ap₂ (λ a b. a ++ (rest ++ b)) (take_at front (drop (k - 0) place) k long) (drop_all (length place - k) (drop k (front ++ drop (k - 0) place)) (omega (arith, cut)))
-    ∙ ap (λ b. front ++ b) (append-nil rest)
 
 -- a call that is not refused is done
 module _ {S : Type 0} (K : Kind S) where

@@ -1,15 +1,15 @@
-// How far a sending run has come.
+// How far a sending run has come. Two counts: that a sender which takes rows has given no tails is in its type, not in a fact.
 ghost use Rattle.std.specs.Prelude.{◌≡◌, ◌+◌, ◌<◌, ◌≤◌};
 
 // The rows that were put.
-#[derive(Clone, Copy)]
+#[derive(Clone, Copy, Debug, PartialEq, Eq)]
 pub struct RowCount {
     pub rows: u32,
     ghost top: { rows ≤ 1000000 },
 }
 
 // The rows that were put, and the tail packets given after them.
-#[derive(Clone, Copy)]
+#[derive(Clone, Copy, Debug, PartialEq, Eq)]
 pub struct SlotCount {
     pub rows: u32,
     pub tails: u32,

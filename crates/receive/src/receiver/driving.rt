@@ -1,5 +1,6 @@
 // Many slots, one call after the other.
 ghost use Rattle.std.specs.Prelude.{◌≡◌, ◌<◌, ◌≤◌, length, Ok};
+ghost use Rattle.std.specs.Result.{result_err};
 ghost use Rattle.code.specs.Sheets.{n};
 ghost use Rattle.receive.specs.Memory.{need};
 ghost use Rattle.receive.specs.Refusing.{slots_refused};
@@ -51,14 +52,7 @@ impl<'w, S: Symbol> Receiver<'w, S> {
     ) -> Result<u32, SlotRefusal>
         ensures { SlotsCall S.kind self.old self.new (slots_of states.now packets.now rows.old rows.new marks.old marks.new) result }
     {
-        if let Some(refusal) = self.slots_refusal(
-            states.len(),
-            packets.len(),
-            rows.len(),
-            marks.len(),
-        ) {
-            return Err(refusal);
-        }
+        self.check_slots(states.len(), packets.len(), rows.len(), marks.len())?;
         let packet = self.sheet.packet_len();
         let row = self.sheet.row as usize;
         let mut handed = 0;
@@ -79,30 +73,30 @@ impl<'w, S: Symbol> Receiver<'w, S> {
         Ok(handed)
     }
 
-    // The first refusal that holds of taking so many slots.
-    fn slots_refusal(
+    // Whether so many slots can be taken, with so many symbols of packets and places: the first refusal that holds.
+    fn check_slots(
         &self,
         count: usize,
         packets: usize,
         symbols: usize,
         marks: usize,
-    ) -> Option<SlotRefusal>
-        ensures { result ≡ slots_refused self.now.sheet (room self.now) self.now.counters.slots count packets symbols marks }
+    ) -> Result<(), SlotRefusal>
+        ensures { result_err result ≡ slots_refused self.now.sheet (room self.now) self.now.counters.slots count packets symbols marks }
     {
         let left = 1_000_000u32.saturating_sub(self.counters.slots) as usize;
         if self.line.len() < window_len(self.sheet) {
-            return Some(SlotRefusal::Window);
+            return Err(SlotRefusal::Window);
         }
         if left < count {
-            return Some(SlotRefusal::Slots);
+            return Err(SlotRefusal::Slots);
         }
         let all = count * self.sheet.row as usize;
         if packets != count * self.sheet.packet_len() {
-            Some(SlotRefusal::Packet)
+            Err(SlotRefusal::Packet)
         } else if symbols != all || marks != all {
-            Some(SlotRefusal::Place)
+            Err(SlotRefusal::Place)
         } else {
-            None
+            Ok(())
         }
     }
 }

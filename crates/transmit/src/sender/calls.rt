@@ -1,8 +1,9 @@
 ghost use Rattle.std.specs.Prelude.{◌≡◌, ◌+◌, [], length};
+ghost use Rattle.std.specs.Result.{result_err};
 ghost use Rattle.code.specs.Packets.{packet};
 ghost use Rattle.transmit.specs.Keeping.{need, kept, with_row};
 ghost use Rattle.transmit.specs.Refusing.{put_refused, tail_refused};
-ghost use Rattle.transmit.specs.Calls.{SenderMade, PutCall, WindCall, TailCall, EndCall, putting, drawing};
+ghost use Rattle.transmit.specs.Calls.{room, SenderMade, PutCall, WindCall, TailCall, EndCall, putting, drawing};
 ghost use Rattle.transmit.specs.Law.{Lawful};
 
 use super::{Sender, Sent, WindingSender};
@@ -12,64 +13,11 @@ use code::{PutRefusal, Sheet, TailRefusal};
 use kinds::Symbol;
 use line::{SymbolLine, clear};
 
-// The symbols of the window that a sender needs.
-fn needed(sheet: Sheet) -> usize
-    ensures { result ≡ need sheet }
-{
-    sheet.delay as usize * sheet.row as usize
-}
-
 // How long a window a sender on this sheet needs.
 pub fn window_len(sheet: Sheet) -> usize
     ensures { result ≡ need sheet }
 {
-    needed(sheet)
-}
-
-// The first refusal that holds of putting a row.
-fn put_refusal(
-    sheet: Sheet,
-    window: usize,
-    slots: u32,
-    row: usize,
-    place: usize,
-) -> Option<PutRefusal>
-    ensures { result ≡ put_refused sheet window slots row place }
-{
-    if window < needed(sheet) {
-        Some(PutRefusal::Window)
-    } else if 1_000_000 <= slots {
-        Some(PutRefusal::Slots)
-    } else if row != sheet.row as usize {
-        Some(PutRefusal::Row)
-    } else if place != sheet.packet_len() {
-        Some(PutRefusal::Place)
-    } else {
-        None
-    }
-}
-
-// The first refusal that holds of drawing a tail packet.
-fn tail_refusal(
-    sheet: Sheet,
-    window: usize,
-    slots: u32,
-    tails: u32,
-    place: usize,
-) -> Option<TailRefusal>
-    ensures { result ≡ tail_refused sheet window slots tails place }
-{
-    if window < needed(sheet) {
-        Some(TailRefusal::Window)
-    } else if 1_000_000 <= slots {
-        Some(TailRefusal::Slots)
-    } else if place != sheet.packet_len() {
-        Some(TailRefusal::Place)
-    } else if sheet.delay <= tails {
-        Some(TailRefusal::Tail)
-    } else {
-        None
-    }
+    sheet.delay as usize * sheet.row as usize
 }
 
 impl<'w, S: Symbol> Sender<'w, S> {
@@ -82,7 +30,7 @@ impl<'w, S: Symbol> Sender<'w, S> {
         Sender {
             sheet,
             count: RowCount::new(),
-            line: SymbolLine::over(window, needed(sheet)),
+            line: SymbolLine::over(window, window_len(sheet)),
         }
     }
 
@@ -90,18 +38,30 @@ impl<'w, S: Symbol> Sender<'w, S> {
     pub fn put(&mut self, row: &[S], place: &mut [S]) -> Result<(), PutRefusal>
         ensures { PutCall S.kind self.old self.new (putting row.now place.old place.new result) }
     {
-        let sheet = self.sheet;
-        let slots = self.count.rows;
-        if let Some(refusal) = put_refusal(sheet, self.line.len(), slots, row.len(), place.len()) {
-            return Err(refusal);
-        }
-        let symbols = sheet.row as usize;
-        let end = place.len();
-        place[0..symbols].copy_from_slice(row);
-        write_parities(&self.line, sheet, slots, &mut place[symbols..end]);
+        self.check_put(row.len(), place.len())?;
+        let (symbols, parities) = place.split_at_mut(row.len());
+        symbols.copy_from_slice(row);
+        write_parities(&self.line, self.sheet, self.count.rows, parities);
         self.line.push_all(row);
         self.count.add_row();
         Ok(())
+    }
+
+    // Whether a row of so many symbols can be put, with a place of so many: the first refusal that holds.
+    fn check_put(&self, row: usize, place: usize) -> Result<(), PutRefusal>
+        ensures { result_err result ≡ put_refused self.now.sheet (room self.now.line) self.now.count.rows row place }
+    {
+        if self.line.len() < window_len(self.sheet) {
+            Err(PutRefusal::Window)
+        } else if 1_000_000 <= self.count.rows {
+            Err(PutRefusal::Slots)
+        } else if row != self.sheet.row as usize {
+            Err(PutRefusal::Row)
+        } else if place != self.sheet.packet_len() {
+            Err(PutRefusal::Place)
+        } else {
+            Ok(())
+        }
     }
 
     // No more rows: from here on only tail packets.
@@ -122,24 +82,32 @@ impl<'w, S: Symbol> WindingSender<'w, S> {
     pub fn tail(&mut self, place: &mut [S]) -> Result<(), TailRefusal>
         ensures { TailCall S.kind self.old self.new (drawing place.old place.new result) }
     {
-        let sheet = self.sheet;
+        self.check_tail(place.len())?;
         let slots = self.count.rows + self.count.tails;
-        if let Some(refusal) = tail_refusal(
-            sheet,
-            self.line.len(),
-            slots,
-            self.count.tails,
-            place.len(),
-        ) {
-            return Err(refusal);
-        }
-        let symbols = sheet.row as usize;
-        let end = place.len();
-        clear(&mut place[0..symbols]);
-        write_parities(&self.line, sheet, slots, &mut place[symbols..end]);
-        self.line.push_zeros(symbols);
+        let row = self.sheet.row as usize;
+        let (symbols, parities) = place.split_at_mut(row);
+        clear(symbols);
+        write_parities(&self.line, self.sheet, slots, parities);
+        self.line.push_zeros(row);
         self.count.add_tail();
         Ok(())
+    }
+
+    // Whether the next tail packet can be drawn, with a place of so many symbols: the first refusal that holds.
+    fn check_tail(&self, place: usize) -> Result<(), TailRefusal>
+        ensures { result_err result ≡ tail_refused self.now.sheet (room self.now.line) (self.now.count.rows + self.now.count.tails) self.now.count.tails place }
+    {
+        if self.line.len() < window_len(self.sheet) {
+            Err(TailRefusal::Window)
+        } else if 1_000_000 <= self.count.rows + self.count.tails {
+            Err(TailRefusal::Slots)
+        } else if place != self.sheet.packet_len() {
+            Err(TailRefusal::Place)
+        } else if self.sheet.delay <= self.count.tails {
+            Err(TailRefusal::Tail)
+        } else {
+            Ok(())
+        }
     }
 
     // Tells what was sent, and gives the window back.

@@ -1,6 +1,5 @@
-use Rattle.std.proofs.Common.{refl}
 use Rattle.receive.proofs.Bursting.{form_bursts}
 use Rattle.receive.proofs.bursts.two_bursts.Goals as goal
 
-pub returns : goal.returns
-returns g c = record { states = refl; bursts = form_bursts g.row.S.Denot }
+pub returns-clause-bursts : goal.returns-clause-bursts
+returns-clause-bursts g c = form_bursts g.row.S.Denot

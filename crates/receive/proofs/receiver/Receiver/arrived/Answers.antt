@@ -16,7 +16,7 @@ returns g c =
     let marks = c.args.marks.now in
     let none : slot_refused p (room r) t (unfit p (Some q)) (length row) (length marks) ≡ None =
     sym (ap (λ (m : ℕ). slot_refused p (room r) t (not (eqb (length q) m)) (length row) (length marks)) c.packet_len.ensures)
-    ∙ sym c.refusal.ensures ∙ c.in_default.is in
+    ∙ sym c.in_ok-check_slot.ensures in
     let fits : length q ≡ n p = eqb-true (length q) (n p) (not-false _ (accepted p (room r) t (unfit p (Some q)) (length row) (length marks) none).fit) in
     slot_call g.S.Symbol.kind r _ c.hand_out.new.self (Some q) q row c.hand_out.new.row marks c.hand_out.new.marks c.hand_out.result
     none fits refl

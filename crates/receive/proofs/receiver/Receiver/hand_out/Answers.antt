@@ -1,7 +1,6 @@
-use Rattle.std.proofs.Common.{ℕ, ◌+◌, cond, refl, ap, ◌∙◌}
+use Rattle.std.proofs.Common.{ℕ, refl, ap}
 use Rattle.line.specs.Line.{contents}
 use Rattle.receive.specs.Memory.{recalled}
-use Rattle.receive.specs.Handing.{whole_row, mended_row, lost_row}
 use Rattle.receive.proofs.Slots.{hands_late}
 use Rattle.receive.proofs.receiver.Receiver.hand_out.Goals as goal
 
@@ -14,13 +13,13 @@ returns g c =
     let v = c.write_row-verdict.result in
     record {
       sheet = refl;
-      slots = c.count.ensures.slots ∙ c.pass.ensures.slots;
+      slots = c.count.ensures.slots;
       table = refl;
       line = refl;
       hands = hands_late K p _ _ r.counters.slots _ c.args.row.now c.write_row-verdict.new.symbols c.args.marks.now c.write_row-verdict.new.marks v
           (ap (λ (t : ℕ). recalled K p t r.table.states (contents r.line)) c.count.ensures.slots)
           c.if-slot-wait.false refl row.symbols row.marks row.verdict;
-      whole = c.count.ensures.whole ∙ ap (λ (x : ℕ). x + cond (whole_row v) 1 0) c.pass.ensures.whole;
-      mended = c.count.ensures.mended ∙ ap (λ (x : ℕ). x + cond (mended_row v) 1 0) c.pass.ensures.mended;
-      lost = c.count.ensures.lost ∙ ap (λ (x : ℕ). x + cond (lost_row v) 1 0) c.pass.ensures.lost;
+      whole = c.count.ensures.whole;
+      mended = c.count.ensures.mended;
+      lost = c.count.ensures.lost;
     }

@@ -13,7 +13,7 @@ returns g c =
     let z = g.S.Symbol.kind.zero in
     let row = c.args.row.now in
     let marks = c.args.marks.now in
-    let none : slot_refused p (room r) t false (length row) (length marks) ≡ None = sym c.refusal.ensures ∙ c.in_default.is in
+    let none : slot_refused p (room r) t false (length row) (length marks) ≡ None = sym c.in_ok-check_slot.ensures in
     slot_call g.S.Symbol.kind r _ c.hand_out.new.self None (replicate c.packet_len.result z) row c.hand_out.new.row marks c.hand_out.new.marks c.hand_out.result
     none (length-replicate c.packet_len.result z ∙ c.packet_len.ensures) tt
     (record {

@@ -1,28 +1,34 @@
-use Rattle.std.proofs.Common.{◌≡◌, ℕ, ◌+◌, ◌-◌, ◌*◌, ◌≤◌, min, List, map, length, sym, ap, ◌∙◌, inl, inr, arith}
+use Rattle.std.proofs.Common.{◌≡◌, ℕ, ◌+◌, ◌-◌, ◌*◌, ◌≤◌, min, List, map, length, sym, ap, ◌∙◌, ap₂, inl, inr, arith}
 use Rattle.std.specs.List.{range_with_len}
 use Rattle.std.proofs.lemmas.List.FromFn.{length-map-range_with_len}
 use Rattle.code.specs.Sheets.{n}
 use Rattle.line.specs.Ring.{symbol_back}
 use Rattle.line.specs.Line.{contents}
 use Rattle.receive.specs.Memory.{memory}
-use Rattle.receive.specs.Blocks.{size}
+use Rattle.code.specs.Blocks.{size}
+use Rattle.code.proofs.Pieces.{block_begins, block_size, block_carried}
 use Rattle.receive.proofs.Reading.{got_none, got_back}
 use Rattle.receive.proofs.Beside.{own_sums, own_known, early_sums, early_known, heard_sums, heard_known, missed_sums, missed_known}
 use Rattle.receive.proofs.receiver.Receiver.take_in.Goals as goal
 
-pub returns-then-other-first : goal.returns-then-other-first
-returns-then-other-first g c =
+pub returns-then-other-block : goal.returns-then-other-block
+returns-then-other-block g c =
     let K = g.S.Symbol.kind in
     let r = c.args.self.now in
     let h = memory K r in
-    elim c.then-other-first.either [
+    let b = c.args.block in
+    let o = c.args.other in
+    let begins = block_begins b c.requires.sheets.0 in
+    let begins' = block_begins o c.requires.sheets.1 in
+    let is = block_carried o c.requires.sheets.1 in
+    elim c.then-other-block.either [
       | inl e ↦ record {
-        sums = c.requires.sums ∙ own_sums K r.sheet h c.args.carrier c.args.first c.args.other c.requires.block c.requires.other e;
-        outlooks = c.requires.outlooks ∙ own_known K r.sheet h c.args.carrier c.args.first c.args.other c.requires.block c.requires.other e;
+        sums = c.requires.sums ∙ own_sums K r.sheet h c.args.carrier b.first o.first begins begins' e;
+        outlooks = c.requires.outlooks ∙ own_known K r.sheet h c.args.carrier b.first o.first begins begins' e;
       }
       | inr e ↦ record {
-        sums = c.requires.sums ∙ early_sums K r.sheet h c.args.carrier c.args.first c.args.other c.requires.block c.requires.other c.args.lag c.requires.lag e.0 e.1;
-        outlooks = c.requires.outlooks ∙ early_known K r.sheet h c.args.carrier c.args.first c.args.other c.requires.block c.requires.other c.args.lag c.requires.lag e.0 e.1;
+        sums = c.requires.sums ∙ early_sums K r.sheet h c.args.carrier b.first o.first begins begins' o.lag is e.0 e.1;
+        outlooks = c.requires.outlooks ∙ early_known K r.sheet h c.args.carrier b.first o.first begins begins' o.lag is e.0 e.1;
       }
     ]
 
@@ -31,14 +37,14 @@ long xs f m e = ap length e ∙ length-map-range_with_len f 0 m
 
 pub slice_bounds-add_back-end : goal.slice_bounds-add_back-end
 slice_bounds-add_back-end g c =
-    let is : length c.args.sums.now ≡ size c.args.self.now.sheet c.args.first = long c.args.sums.now _ _ c.requires.sums in
-    let fits : c.min-end.result ≤ length c.args.sums.now = omega (arith, c.min-end.ensures, c.max.ensures) in
+    let is : length c.args.sums.now ≡ size c.args.self.now.sheet c.args.block.first = long c.args.sums.now _ _ c.requires.sums in
+    let fits : c.min-end.result ≤ length c.args.sums.now = omega (arith, c.min-end.ensures, c.len.ensures, block_size c.args.block c.requires.sheets.0) in
     fits
 
-pub slice_bounds-mark_all-end : goal.slice_bounds-mark_all-end
-slice_bounds-mark_all-end g c =
-    let is : length c.args.outlooks.now ≡ size c.args.self.now.sheet c.args.first = long c.args.outlooks.now _ _ c.requires.outlooks in
-    let fits : c.min-end.result ≤ length c.args.outlooks.now = omega (arith, c.min-end.ensures, c.max.ensures) in
+pub slice_bounds-fill-end : goal.slice_bounds-fill-end
+slice_bounds-fill-end g c =
+    let is : length c.args.outlooks.now ≡ size c.args.self.now.sheet c.args.block.first = long c.args.outlooks.now _ _ c.requires.outlooks in
+    let fits : c.min-end.result ≤ length c.args.outlooks.now = omega (arith, c.min-end.ensures, c.len.ensures, block_size c.args.block c.requires.sheets.0) in
     fits
 
 pub returns-then-heard : goal.returns-then-heard
@@ -48,20 +54,22 @@ returns-then-heard g c =
     let p = r.sheet in
     let h = memory K r in
     let s = c.args.carrier in
-    let first = c.args.first in
-    let other = c.args.other in
-    let since = c.args.lag in
-    let steps = c.steps_to.result in
+    let b = c.args.block in
+    let o = c.args.other in
+    let begins = block_begins b c.requires.sheets.0 in
+    let begins' = block_begins o c.requires.sheets.1 in
+    let is = block_carried o c.requires.sheets.1 in
+    let steps = c.steps_to-steps.result in
     let held = contents r.line in
     let came = sym c.if-heard.ensures in
     record {
-      sums = heard_sums K p h s first other c.requires.block c.requires.other since c.requires.lag c.if-other-first.false c.if-carrier-lag.false
-          c.min-end.result (c.min-end.ensures ∙ ap (λ x. min p.parity (p.row - x)) c.max.ensures)
+      sums = heard_sums K p h s b.first o.first begins begins' o.lag is c.if-other-block.false c.if-carrier-other.false
+          c.min-end.result (c.min-end.ensures ∙ ap₂ min (c.len.ensures ∙ block_size b c.requires.sheets.0) (c.len-2.ensures ∙ block_size o c.requires.sheets.1))
           c.args.sums.now c.add_back.new.place (λ i. symbol_back K.zero held (steps - i)) c.requires.sums
-          (λ i l. ap (symbol_back K.zero held) (let e : steps - i ≡ (r.counters.slots - (s - since)) * n p - (other + i) = omega (arith, c.steps_to.ensures) in e)
-          ∙ sym (got_back K p r.counters.slots r.table.states held (s - since) (other + i) came (omega (arith, c.requires.other))))
+          (λ i l. ap (symbol_back K.zero held) (let e : steps - i ≡ (r.counters.slots - (s - o.lag)) * n p - (o.first + i) = omega (arith, c.steps_to-steps.ensures) in e)
+          ∙ sym (got_back K p r.counters.slots r.table.states held (s - o.lag) (o.first + i) came (omega (arith, begins'))))
           c.add_back.ensures;
-      outlooks = c.requires.outlooks ∙ heard_known K p h s first other c.requires.block c.requires.other since c.requires.lag c.if-other-first.false c.if-carrier-lag.false came;
+      outlooks = c.requires.outlooks ∙ heard_known K p h s b.first o.first begins begins' o.lag is c.if-other-block.false c.if-carrier-other.false came;
     }
 
 pub returns-else-heard : goal.returns-else-heard
@@ -71,14 +79,16 @@ returns-else-heard g c =
     let p = r.sheet in
     let h = memory K r in
     let s = c.args.carrier in
-    let first = c.args.first in
-    let other = c.args.other in
-    let since = c.args.lag in
+    let b = c.args.block in
+    let o = c.args.other in
+    let begins = block_begins b c.requires.sheets.0 in
+    let begins' = block_begins o c.requires.sheets.1 in
+    let is = block_carried o c.requires.sheets.1 in
     let missed = sym c.if-heard.ensures in
     record {
-      sums = c.requires.sums ∙ missed_sums K p h s first other c.requires.block c.requires.other since c.requires.lag c.if-other-first.false c.if-carrier-lag.false
-          (λ i. got_none K h (s - since) (other + i) missed);
-      outlooks = missed_known K p h s first other c.requires.block c.requires.other since c.requires.lag c.if-other-first.false c.if-carrier-lag.false
-          c.min-end.result (c.min-end.ensures ∙ ap (λ x. min p.parity (p.row - x)) c.max.ensures)
-          c.args.outlooks.now c.mark_all.new.places c.requires.outlooks missed c.mark_all.ensures;
+      sums = c.requires.sums ∙ missed_sums K p h s b.first o.first begins begins' o.lag is c.if-other-block.false c.if-carrier-other.false
+          (λ i. got_none K h (s - o.lag) (o.first + i) missed);
+      outlooks = missed_known K p h s b.first o.first begins begins' o.lag is c.if-other-block.false c.if-carrier-other.false
+          c.min-end.result (c.min-end.ensures ∙ ap₂ min (c.len.ensures ∙ block_size b c.requires.sheets.0) (c.len-2.ensures ∙ block_size o c.requires.sheets.1))
+          c.args.outlooks.now c.fill.new.self c.requires.outlooks missed (c.fill.ensures.after (λ y e. e));
     }

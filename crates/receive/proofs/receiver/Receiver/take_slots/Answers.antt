@@ -15,14 +15,14 @@ no_more handed b test e t = (let z : handed ≡ handed + 0 = omega arith in z) �
 pub loop-i-init : goal.loop-i-init
 loop-i-init g c =
     let r = c.args.self.now in
-    let fits = enough r.sheet (room r) r.counters.slots (length c.args.states.now) (length c.args.packets.now) (length c.args.rows.now) (length c.args.marks.now) (sym c.slots_refusal.ensures ∙ c.in_default.is) in
+    let fits = enough r.sheet (room r) r.counters.slots (length c.args.states.now) (length c.args.packets.now) (length c.args.rows.now) (length c.args.marks.now) (sym c.in_ok-check_slots.ensures) in
     taking_none g.S.Symbol.kind r c.args.states.now c.args.packets.now c.args.rows.now c.args.marks.now fits.wide
 
 pub offset_bounds-packets-from : goal.offset_bounds-packets-from
 offset_bounds-packets-from g c =
     let r = c.args.self.now in
     let m = length c.args.states.now in
-    let fits = enough r.sheet (room r) r.counters.slots m (length c.args.packets.now) (length c.args.rows.now) (length c.args.marks.now) (sym c.slots_refusal.ensures ∙ c.in_default.is) in
+    let fits = enough r.sheet (room r) r.counters.slots m (length c.args.packets.now) (length c.args.rows.now) (length c.args.marks.now) (sym c.in_ok-check_slots.ensures) in
     let same : c.loop-i.i * c.packet_len-packet.result ≡ c.loop-i.i * n r.sheet = ap (λ (x : ℕ). c.loop-i.i * x) c.packet_len-packet.ensures in
     omega (arith, part_ends c.loop-i.i m (n r.sheet) c.loop-i-test.true, fits.all_packets)
 
@@ -30,7 +30,7 @@ pub slice_bounds-take_slot-end : goal.slice_bounds-take_slot-end
 slice_bounds-take_slot-end g c =
     let r = c.args.self.now in
     let m = length c.args.states.now in
-    let fits = enough r.sheet (room r) r.counters.slots m (length c.args.packets.now) (length c.args.rows.now) (length c.args.marks.now) (sym c.slots_refusal.ensures ∙ c.in_default.is) in
+    let fits = enough r.sheet (room r) r.counters.slots m (length c.args.packets.now) (length c.args.rows.now) (length c.args.marks.now) (sym c.in_ok-check_slots.ensures) in
     let same : c.loop-i.i * c.packet_len-packet.result ≡ c.loop-i.i * n r.sheet = ap (λ (x : ℕ). c.loop-i.i * x) c.packet_len-packet.ensures in
     let ends : c.loop-i.i * c.packet_len-packet.result + c.packet_len-packet.result ≤ length c.args.packets.now = omega (arith, part_ends c.loop-i.i m (n r.sheet) c.loop-i-test.true, fits.all_packets, c.packet_len-packet.ensures) in
     ends
@@ -39,7 +39,7 @@ pub offset_bounds-rows-start : goal.offset_bounds-rows-start
 offset_bounds-rows-start g c =
     let r = c.args.self.now in
     let m = length c.args.states.now in
-    let fits = enough r.sheet (room r) r.counters.slots m (length c.args.packets.now) (length c.args.rows.now) (length c.args.marks.now) (sym c.slots_refusal.ensures ∙ c.in_default.is) in
+    let fits = enough r.sheet (room r) r.counters.slots m (length c.args.packets.now) (length c.args.rows.now) (length c.args.marks.now) (sym c.in_ok-check_slots.ensures) in
     let starts : c.loop-i.i * r.sheet.row ≤ length c.args.rows.now = omega (arith, part_ends c.loop-i.i m r.sheet.row c.loop-i-test.true, fits.row_places) in
     scaled_fits≤ (c.loop-i.i * r.sheet.row) (length c.args.rows.now) _ starts (search rules)
 
@@ -47,7 +47,7 @@ pub slice_bounds-take_slot-end-in-loop-i : goal.slice_bounds-take_slot-end-in-lo
 slice_bounds-take_slot-end-in-loop-i g c =
     let r = c.args.self.now in
     let m = length c.args.states.now in
-    let fits = enough r.sheet (room r) r.counters.slots m (length c.args.packets.now) (length c.args.rows.now) (length c.args.marks.now) (sym c.slots_refusal.ensures ∙ c.in_default.is) in
+    let fits = enough r.sheet (room r) r.counters.slots m (length c.args.packets.now) (length c.args.rows.now) (length c.args.marks.now) (sym c.in_ok-check_slots.ensures) in
     let ends : c.loop-i.i * r.sheet.row + r.sheet.row ≤ length c.loop-i.rows = omega (arith, part_ends c.loop-i.i m r.sheet.row c.loop-i-test.true, fits.row_places, c.loop-i.auto.rows) in
     ends
 
@@ -55,7 +55,7 @@ pub slice_bounds-take_slot-end-in-loop-i-2 : goal.slice_bounds-take_slot-end-in-
 slice_bounds-take_slot-end-in-loop-i-2 g c =
     let r = c.args.self.now in
     let m = length c.args.states.now in
-    let fits = enough r.sheet (room r) r.counters.slots m (length c.args.packets.now) (length c.args.rows.now) (length c.args.marks.now) (sym c.slots_refusal.ensures ∙ c.in_default.is) in
+    let fits = enough r.sheet (room r) r.counters.slots m (length c.args.packets.now) (length c.args.rows.now) (length c.args.marks.now) (sym c.in_ok-check_slots.ensures) in
     let ends : c.loop-i.i * r.sheet.row + r.sheet.row ≤ length c.loop-i.marks = omega (arith, part_ends c.loop-i.i m r.sheet.row c.loop-i-test.true, fits.mark_places, c.loop-i.auto.marks) in
     ends
 
@@ -70,7 +70,7 @@ loop-i-preserved g c =
     let marks = c.args.marks.now in
     let i = c.loop-i.i in
     let size = c.packet_len-packet.result in
-    let fits = enough p (room r) r.counters.slots (length states) (length packets) (length rows) (length marks) (sym c.slots_refusal.ensures ∙ c.in_default.is) in
+    let fits = enough p (room r) r.counters.slots (length states) (length packets) (length rows) (length marks) (sym c.in_ok-check_slots.ensures) in
     let last = part_ends i (length states) p.row c.loop-i-test.true in
     let row_ends : i * p.row + p.row ≤ length c.loop-i.rows = omega (arith, fits.row_places, c.loop-i.auto.rows) in
     let mark-ends : i * p.row + p.row ≤ length c.loop-i.marks = omega (arith, fits.mark_places, c.loop-i.auto.marks) in
@@ -79,7 +79,7 @@ loop-i-preserved g c =
       | else-is_some w ↦ w.handed-is ∙ no_more c.loop-i.handed _ c.is_some.result c.is_some.ensures w.if-is_some.false
     ] in
     taking_more K p r.counters.slots r c.loop-i.self c.take_slot-due.new.self states packets rows c.loop-i.rows marks c.loop-i.marks (room r) i c.loop-i.handed
-    c.loop-i-test.true fits r.counters.top c.loop-i.auto.rows c.loop-i.auto.marks c.loop-i.invariant
+    c.loop-i-test.true fits r.top c.loop-i.auto.rows c.loop-i.auto.marks c.loop-i.invariant
     (i * p.row) (i * p.row + p.row) (i * size) (i * size + size) refl refl (ap (λ (x : ℕ). i * x) c.packet_len-packet.ensures) (ap (λ (x : ℕ). i * size + x) c.packet_len-packet.ensures)
     _ refl c.take_slot-due.new.row c.take_slot-due.new.marks c.take_slot-due.result
     c.if-is_some.handed (c.take_slot-due.auto.row ∙ part_long c.loop-i.rows (i * p.row) p.row row_ends) (c.take_slot-due.auto.marks ∙ part_long c.loop-i.marks (i * p.row) p.row mark-ends) c.take_slot-due.ensures handed_is

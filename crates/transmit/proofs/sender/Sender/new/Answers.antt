@@ -9,12 +9,12 @@ pub returns : goal.returns
 returns g c =
     let K = g.S.Symbol.kind in
     let lent = c.args.window.now in
-    let places : fitting c.needed.result (length lent) ≡ _ = ap (λ m. fitting m (length lent)) c.needed.ensures in
+    let places : fitting c.window_len.result (length lent) ≡ _ = ap (λ m. fitting m (length lent)) c.window_len.ensures in
     let made : SenderMade c.args.sheet lent (record { sheet = c.args.sheet; count = c.new.result; line = c.over.result }) = record {
       sheet = refl;
       rows = c.new.ensures;
       places = c.over.ensures.places ∙ places;
-      room_is = ap length c.over.ensures.held ∙ length-replicate (fitting c.needed.result (length lent)) K.zero ∙ places;
+      room_is = ap length c.over.ensures.held ∙ length-replicate (fitting c.window_len.result (length lent)) K.zero ∙ places;
       long = c.over.ensures.long;
       past = c.over.ensures.past ∙ ap (λ m. drop m lent) places;
     } in

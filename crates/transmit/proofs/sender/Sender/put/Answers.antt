@@ -1,8 +1,7 @@
-use Rattle.std.proofs.Common.{◌≡◌, ◌+◌, ◌++◌, length, None, sym, refl, ap, ◌∙◌, ap₂}
-use Rattle.std.proofs.lemmas.List.FromFn.{length-map-range_with_len}
+use Rattle.std.proofs.Common.{◌≡◌, ◌++◌, length, None, sym, refl, ap₂}
 use Rattle.transmit.specs.Refusing.{put_refused}
 use Rattle.transmit.specs.Calls.{room}
-use Rattle.transmit.proofs.Passing.{passes, placed, put_done}
+use Rattle.transmit.proofs.Passing.{passes, put_done}
 use Rattle.transmit.proofs.Allowing.{put_allowed}
 use Rattle.transmit.proofs.sender.Sender.put.Goals as goal
 
@@ -14,18 +13,14 @@ returns g c =
     let t = s.count.rows in
     let row = c.args.row.now in
     let place = c.args.place.now in
-    let parities = c.write_parities.new.place in
-    let allowed : put_refused p (room s.line) t (length row) (length place) ≡ None =
-    ap (λ w. put_refused p w t (length row) (length place)) (sym c.len.ensures) ∙ sym c.in_default.ensures in
+    let allowed : put_refused p (room s.line) t (length row) (length place) ≡ None = sym c.in_ok-check_put.ensures in
     let ok = put_allowed p (room s.line) t (length row) (length place) allowed in
-    let many : length parities ≡ p.parity = ap length c.write_parities.ensures ∙ length-map-range_with_len _ 0 p.parity in
     put_done K s _ _ allowed (record {
       answer = refl;
       sheet = refl;
       rows = c.add_row.ensures;
       passes =
           passes K p t s.line c.push_all.new.self row row ok.2 (λ _ _. refl) ok.0 c.push_all.ensures.held _
-          (placed place c.copy_from_slice.new.self parities p.row (ap length c.copy_from_slice.ensures.after ∙ ok.2) (ok.3 ∙ ap (λ m. p.row + m) (sym many))
-          ∙ ap₂ ◌++◌ c.copy_from_slice.ensures.after c.write_parities.ensures)
+          (ap₂ ◌++◌ c.copy_from_slice.ensures.after c.write_parities.ensures)
           c.push_all.ensures.kept;
     })

@@ -1,9 +1,8 @@
-use Rattle.std.proofs.Common.{◌≡◌, ◌+◌, ◌-◌, [], ◌++◌, length, replicate, None, sym, refl, ap, ◌∙◌, ap₂, arith}
-use Rattle.std.proofs.lemmas.List.FromFn.{length-map-range_with_len}
-use Rattle.std.proofs.lemmas.List.{length-replicate, get_or-replicate, length-take-le}
+use Rattle.std.proofs.Common.{◌≡◌, ◌+◌, [], ◌++◌, length, replicate, None, sym, refl, ap, ◌∙◌, ap₂}
+use Rattle.std.proofs.lemmas.List.{length-replicate, get_or-replicate}
 use Rattle.transmit.specs.Refusing.{tail_refused}
 use Rattle.transmit.specs.Calls.{room}
-use Rattle.transmit.proofs.Passing.{passes, placed, tail_done}
+use Rattle.transmit.proofs.Passing.{passes, tail_done}
 use Rattle.transmit.proofs.Allowing.{tail_allowed}
 use Rattle.transmit.proofs.sender.WindingSender.tail.Goals as goal
 
@@ -15,13 +14,9 @@ returns g c =
     let t = v.count.rows + v.count.tails in
     let zeros = replicate p.row K.zero in
     let place = c.args.place.now in
-    let parities = c.write_parities.new.place in
-    let allowed : tail_refused p (room v.line) t v.count.tails (length place) ≡ None =
-    ap (λ w. tail_refused p w t v.count.tails (length place)) (sym c.len.ensures) ∙ sym c.in_default.ensures in
+    let allowed : tail_refused p (room v.line) t v.count.tails (length place) ≡ None = sym c.in_ok-check_tail.ensures in
     let ok = tail_allowed p (room v.line) t v.count.tails (length place) allowed in
-    let many : length parities ≡ p.parity = ap length c.write_parities.ensures ∙ length-map-range_with_len _ 0 p.parity in
-    let front : c.clear.new.ring ≡ replicate p.row K.zero =
-    c.clear.ensures ∙ ap (λ m. replicate m K.zero) (length-take-le (p.row - 0) place (omega (arith, ok.2)) ∙ (let e : p.row - 0 ≡ p.row = omega arith in e)) in
+    let front : c.clear.new.ring ≡ replicate p.row K.zero = c.clear.ensures ∙ ap (λ m. replicate m K.zero) c.split_at_mut-symbols.ensures.front_len in
     tail_done K v _ _ allowed (record {
       answer = refl;
       sheet = refl;
@@ -29,7 +24,6 @@ returns g c =
       tails = c.add_tail.ensures.tails;
       passes =
           passes K p t v.line c.push_zeros.new.self zeros [] (length-replicate p.row K.zero) (λ b l. get_or-replicate p.row b K.zero K.zero l) ok.0 c.push_zeros.ensures.held _
-          (placed place c.clear.new.ring parities p.row (ap length front ∙ length-replicate p.row K.zero) (ok.2 ∙ ap (λ m. p.row + m) (sym many))
-          ∙ ap₂ ◌++◌ front c.write_parities.ensures)
+          (ap₂ ◌++◌ front c.write_parities.ensures)
           c.push_zeros.ensures.kept;
     })
