@@ -2,7 +2,7 @@
 use code::Sheet;
 
 // The kinds that have a letter: B for bytes, D for digits.
-#[derive(Clone, Copy)]
+#[derive(Clone, Copy, Debug, PartialEq, Eq)]
 pub enum SymbolKind {
     Bytes,
     Digits,
