@@ -1,9 +1,17 @@
 -- Which slot and column carries a symbol. Assumes nothing.
-use Rattle.std.proofs.Common.{◌≡◌, ℕ, ◌+◌, ◌-◌, ◌*◌, ◌/◌, ◌%◌, ◌<◌, ◌≤◌, leb, sym, ◌∙◌, ap₂, inl, inr, mul-le-mul_right, mod-lt, mul-le-mul_left, div-add-mod', arith}
+use Rattle.std.proofs.Common.{◌≡◌, ℕ, ◌+◌, ◌-◌, ◌*◌, ◌/◌, ◌%◌, ◌<◌, ◌≤◌, min, leb, sym, ◌∙◌, ap₂, inl, inr, mul-le-mul_right, mod-lt, mul-le-mul_left, div-add-mod', arith}
+use Rattle.std.proofs.Math.Nat.{div-eq_of_lt-le}
+use Rattle.std.proofs.lemmas.Grind.{div_ceil_times}
 use Rattle.std.proofs.lemmas.Nat.{le-div}
 use Rattle.std.proofs.lemmas.Bool.{cond_both, cond-true, cond-false, leb-false, cases_Bool}
 use Rattle.code.specs.declared.sheet.Sheet.{Sheet}
 use Rattle.code.specs.Sheets.{T, lag, column}
+
+-- a quotient rounded up, written two ways
+pub rounded_up : (a b : ℕ) → 0 < b → (a + (b - 1)) / b ≡ a / b + min 1 (a % b)
+rounded_up a b some =
+    let up = div_ceil_times a b some in
+    div-eq_of_lt-le b (omega (arith, up.1)) (omega (arith, up.0))
 
 module _ (p : Sheet) where
   pub column_below : (b : ℕ) → b < p.row → column p b < p.parity

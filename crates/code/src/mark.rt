@@ -4,19 +4,15 @@ ghost use Rattle.code.specs.Marks.{mark_number};
 
 #[derive(Clone, Copy, Debug, PartialEq, Eq)]
 pub enum Mark {
-    Arrived,
-    Mended,
-    Lost,
+    Arrived = 0,
+    Mended = 1,
+    Lost = 2,
 }
 
 impl Mark {
     pub fn number(self) -> u32
         ensures { result ≡ mark_number self }
     {
-        match self {
-            Mark::Arrived => 0,
-            Mark::Mended => 1,
-            Mark::Lost => 2,
-        }
+        self as u32
     }
 }

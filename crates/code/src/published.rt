@@ -5,6 +5,7 @@ use crate::sheet::Sheet;
 use kinds::Symbol;
 
 // Answers its own sheet; its contract is that the packets are those of the published construction.
+#[tactic(auto, using(crate::proofs::Construction::as_published))]
 pub fn as_published<S: Symbol>(sheet: Sheet) -> Sheet
     ensures { AsPublished S.kind sheet }
 {

@@ -2,44 +2,52 @@
 ghost use Rattle.std.specs.Prelude.{◌≡◌};
 ghost use Rattle.code.specs.Refusals.{put_number, tail_number, slot_number};
 
-// Putting a row: the window is too short; the run has used all its slots; the row, or the place for the packet, has the
-// wrong length.
-#[derive(Clone, Copy)]
+use thiserror::Error;
+
+// Putting a row.
+#[derive(Clone, Copy, Debug, PartialEq, Eq, Error)]
 pub enum PutRefusal {
-    Window,
-    Slots,
-    Row,
-    Place,
+    #[error("the window is too short")]
+    Window = 11,
+    #[error("the run has used all its slots")]
+    Slots = 12,
+    #[error("the row has the wrong length")]
+    Row = 13,
+    #[error("the place for the packet has the wrong length")]
+    Place = 14,
 }
 
-// Drawing a tail packet: as above, and all tail packets have been given.
-#[derive(Clone, Copy)]
+// Drawing a tail packet.
+#[derive(Clone, Copy, Debug, PartialEq, Eq, Error)]
 pub enum TailRefusal {
-    Window,
-    Slots,
-    Place,
-    Tail,
+    #[error("the window is too short")]
+    Window = 11,
+    #[error("the run has used all its slots")]
+    Slots = 12,
+    #[error("the place for the packet has the wrong length")]
+    Place = 14,
+    #[error("all tail packets have been given")]
+    Tail = 15,
 }
 
-// Taking a slot: as above; the packet, or the place for the row or for its marks, has the wrong length.
-#[derive(Clone, Copy)]
+// Taking a slot.
+#[derive(Clone, Copy, Debug, PartialEq, Eq, Error)]
 pub enum SlotRefusal {
-    Window,
-    Slots,
-    Packet,
-    Place,
+    #[error("the window is too short")]
+    Window = 11,
+    #[error("the run has used all its slots")]
+    Slots = 12,
+    #[error("the packet has the wrong length")]
+    Packet = 13,
+    #[error("the place for the row or for its marks has the wrong length")]
+    Place = 14,
 }
 
 impl PutRefusal {
     pub fn number(self) -> u32
         ensures { result ≡ put_number self }
     {
-        match self {
-            PutRefusal::Window => 11,
-            PutRefusal::Slots => 12,
-            PutRefusal::Row => 13,
-            PutRefusal::Place => 14,
-        }
+        self as u32
     }
 }
 
@@ -47,12 +55,7 @@ impl TailRefusal {
     pub fn number(self) -> u32
         ensures { result ≡ tail_number self }
     {
-        match self {
-            TailRefusal::Window => 11,
-            TailRefusal::Slots => 12,
-            TailRefusal::Place => 14,
-            TailRefusal::Tail => 15,
-        }
+        self as u32
     }
 }
 
@@ -60,11 +63,6 @@ impl SlotRefusal {
     pub fn number(self) -> u32
         ensures { result ≡ slot_number self }
     {
-        match self {
-            SlotRefusal::Window => 11,
-            SlotRefusal::Slots => 12,
-            SlotRefusal::Packet => 13,
-            SlotRefusal::Place => 14,
-        }
+        self as u32
     }
 }

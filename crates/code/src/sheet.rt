@@ -1,9 +1,11 @@
 // The numbers of a code. No sheet outside these limits exists.
 ghost use Rattle.std.specs.Prelude.{◌≡◌, ◌+◌, ◌-◌, ◌*◌, ◌/◌, ◌≤◌};
 
+use thiserror::Error;
+
 mod calls;
 
-#[derive(Clone, Copy)]
+#[derive(Clone, Copy, Debug, PartialEq, Eq)]
 pub struct Sheet {
     // the burst length L
     pub burst: u32,
@@ -21,10 +23,14 @@ pub struct Sheet {
 }
 
 // Why no sheet has these numbers.
-#[derive(Clone, Copy)]
+#[derive(Clone, Copy, Debug, PartialEq, Eq, Error)]
 pub enum SheetRefusal {
-    Burst,
-    Row,
-    Parity,
-    Delay,
+    #[error("the burst length is not one of 1 to 32")]
+    Burst = 7,
+    #[error("the symbols of a row are not 1 to 48")]
+    Row = 8,
+    #[error("the parity symbols of a slot are not 1 to 16")]
+    Parity = 9,
+    #[error("a row would wait longer than 256 slots")]
+    Delay = 10,
 }

@@ -5,6 +5,7 @@ use crate::sheet::Sheet;
 use kinds::Symbol;
 
 // Answers its own sheet; its contract is the theory.
+#[tactic(auto, using(crate::proofs::Standing::theory))]
 pub fn stands<S: Symbol>(sheet: Sheet) -> Sheet
     ensures { Theory S.kind sheet }
 {

@@ -1,13 +1,12 @@
 // Decimal digits, summed modulo ten.
-ghost use Rattle.std.specs.Prelude.{◌≡◌};
+ghost use Rattle.std.specs.Prelude.{◌≡◌, refl};
 ghost use Rattle.kinds.specs.Digits.{digits, digit_form, digit};
 ghost use Rattle.kinds.specs.Numbers.{symbol_of-number, belongs_to_one};
 
-use crate::layout::Layout;
 use crate::printed::Printed;
 use crate::symbol::Symbol;
 
-#[derive(Clone, Copy)]
+#[derive(Clone, Copy, Debug, PartialEq, Eq)]
 pub enum Digit {
     D0,
     D1,
@@ -22,7 +21,7 @@ pub enum Digit {
 }
 
 impl Digit {
-    // The digit that is left of `n` when tens are taken away.
+    // The digit that is left of `n` when tens are taken away. By cases, since no cast makes an enum of a number.
     pub fn of_rest(n: u32) -> Digit
         ensures { result ≡ digit n }
     {
@@ -70,17 +69,17 @@ impl Printed for Digit {
 
     ghost form = { digit_form };
 
+    ghost LETTER = { digit_form.layout.letter };
+
+    ghost WIDTH = { digit_form.layout.width };
+
+    ghost TOP = { digit_form.layout.top };
+
+    ghost constants = { (refl, refl, refl) };
+
     ghost round_trip = { symbol_of-number digit_form };
 
     ghost one_symbol = { belongs_to_one digit_form };
-
-    fn layout() -> Layout {
-        Layout {
-            letter: Self::LETTER,
-            width: Self::WIDTH,
-            top: Self::TOP,
-        }
-    }
 
     fn number(self) -> u32 {
         self as u32

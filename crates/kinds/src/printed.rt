@@ -12,12 +12,25 @@ pub trait Printed: Symbol {
 
     const TOP: u32;
 
-    // The three constants and the numbers of the symbols, with the laws that each `impl` owes.
+    // The layout and the numbers of the symbols, with the laws that each `impl` owes.
     ghost form: { Form Self };
 
-    // The three constants. Generic code reads them here: of a constant that it reads itself it would know nothing.
-    fn layout() -> Layout
-        ensures { result ≡ form.layout };
+    ghost LETTER: { ℕ };
+
+    ghost WIDTH: { ℕ };
+
+    ghost TOP: { ℕ };
+
+    // The three constants, together.
+    final fn layout() -> Layout
+        ensures { result ≡ form.layout }
+    {
+        Layout {
+            letter: Self::LETTER,
+            width: Self::WIDTH,
+            top: Self::TOP,
+        }
+    }
 
     // The symbol's number.
     fn number(self) -> u32
@@ -26,6 +39,9 @@ pub trait Printed: Symbol {
     // The symbol that has this number, if one has.
     fn of_number(n: u32) -> Option<Self>
         ensures { result ≡ symbol_of form n };
+
+    // The constants are those of the form.
+    ghost constants: { (LETTER ≡ form.layout.letter) × (WIDTH ≡ form.layout.width) × (TOP ≡ form.layout.top) };
 
     // Reading a symbol's number back gives that symbol.
     ghost round_trip: { (symbol : Self) → symbol_of form (form.number symbol) ≡ Some symbol };

@@ -9,16 +9,17 @@ impl Sheet {
     pub fn new(burst: u32, row: u32, parity: u32) -> Result<Sheet, SheetRefusal>
         ensures { Makes burst row parity (sheet_refused burst row parity) result }
     {
-        if burst < 1 || 32 < burst {
+        if !(1..=32).contains(&burst) {
             return Err(SheetRefusal::Burst);
         }
-        if row < 1 || 48 < row {
+        if !(1..=48).contains(&row) {
             return Err(SheetRefusal::Row);
         }
-        if parity < 1 || 16 < parity {
+        if !(1..=16).contains(&parity) {
             return Err(SheetRefusal::Parity);
         }
-        let delay = burst * ((row + (parity - 1)) / parity);
+        let blocks = row.div_ceil(parity);
+        let delay = burst * blocks;
         if 256 < delay {
             return Err(SheetRefusal::Delay);
         }
@@ -42,11 +43,6 @@ impl SheetRefusal {
     pub fn number(self) -> u32
         ensures { result ≡ refusal_number self }
     {
-        match self {
-            SheetRefusal::Burst => 7,
-            SheetRefusal::Row => 8,
-            SheetRefusal::Parity => 9,
-            SheetRefusal::Delay => 10,
-        }
+        self as u32
     }
 }

@@ -1,9 +1,8 @@
-ghost use Rattle.std.specs.Prelude.{◌≡◌};
+ghost use Rattle.std.specs.Prelude.{◌≡◌, refl};
 ghost use Rattle.kinds.specs.Bytes.{bytes, byte_form};
 ghost use Rattle.kinds.specs.Numbers.{symbol_of-number, belongs_to_one};
 
 use super::Byte;
-use crate::layout::Layout;
 use crate::printed::Printed;
 use crate::symbol::Symbol;
 
@@ -47,17 +46,17 @@ impl Printed for Byte {
 
     ghost form = { byte_form };
 
+    ghost LETTER = { byte_form.layout.letter };
+
+    ghost WIDTH = { byte_form.layout.width };
+
+    ghost TOP = { byte_form.layout.top };
+
+    ghost constants = { (refl, refl, refl) };
+
     ghost round_trip = { symbol_of-number byte_form };
 
     ghost one_symbol = { belongs_to_one byte_form };
-
-    fn layout() -> Layout {
-        Layout {
-            letter: Self::LETTER,
-            width: Self::WIDTH,
-            top: Self::TOP,
-        }
-    }
 
     fn number(self) -> u32 {
         self.value as u32

@@ -1,6 +1,0 @@
-use Rattle.std.proofs.Common.{refl}
-use Rattle.kinds.specs.Bytes.{byte_path}
-use Rattle.kinds.proofs.byte.calls.ByteSymbol.zero.Goals as goal
-
-pub returns : goal.returns
-returns c = byte_path _ _ refl
