@@ -8,7 +8,7 @@ pub enum SymbolKind {
     Digits,
 }
 
-#[derive(Clone, Copy)]
+#[derive(Clone, Copy, Debug, PartialEq, Eq)]
 pub struct Header {
     pub kind: SymbolKind,
     pub sheet: Sheet,
