@@ -1,17 +1,15 @@
 -- A field that is written column by column, from the right.
-use Rattle.std.proofs.Common.{◌≡◌, ℕ, zero, suc, ◌+◌, ◌-◌, ◌*◌, ◌/◌, ◌%◌, ◌^◌, ◌<◌, ◌≤◌, false, eqb, List, [], ◌∷◌, ◌++◌, length, drop, set, sym, ap, ◌∙◌, pow-suc, add-one, arith, length-set}
+use Rattle.std.proofs.Common.{◌≡◌, ℕ, zero, suc, ◌+◌, ◌-◌, ◌*◌, ◌/◌, ◌%◌, ◌^◌, ◌<◌, ◌≤◌, false, eqb, List, [], ◌∷◌, ◌++◌, length, drop, set, sym, ap, ◌∙◌, arith, length-set}
 use Rattle.std.specs.Int.Digits.{digits_of}
 use Rattle.std.proofs.lemmas.Int.Digits.{digits_of_step}
 use Rattle.std.proofs.lemmas.List.{append-nil, append_assoc, map_push, length_push, replicate_more, drop-set, drop_all}
 use Rattle.std.proofs.lemmas.Bool.{cond-false, ne_eqb}
+use Rattle.std.proofs.lemmas.Grind.{pow_more}
 use Rattle.lines.specs.Fields.{digits, digit_byte, justified, field}
 use Rattle.lines.specs.Scanning.{column_byte}
 
 pub two : 2 ≤ 10
 two = omega arith
-
-pub pow_more : (i : ℕ) → 10 ^ (i + 1) ≡ 10 ^ i * 10
-pow_more i = rw add-one (pow-suc 10 i)
 
 -- one digit more
 push : (j : ℕ) (ds : List ℕ) (d : ℕ) (rest : List ℕ) →
@@ -50,7 +48,7 @@ last_column j (suc u) =
 pub less_left : (i v : ℕ) → 0 < i → v < 10 ^ i → v / 10 < 10 ^ (i - 1)
 less_left i v p h =
     let e : i - 1 + 1 ≡ i = omega arith in
-    let q : 10 ^ i ≡ 10 ^ (i - 1) * 10 = ap (λ x. 10 ^ x) (sym e) ∙ pow_more (i - 1) in
+    let q : 10 ^ i ≡ 10 ^ (i - 1) * 10 = ap (λ x. 10 ^ x) (sym e) ∙ pow_more 10 (i - 1) in
     omega arith
 
 -- the loop begins

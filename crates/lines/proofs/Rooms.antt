@@ -1,19 +1,11 @@
 -- A printed kind's fields have room for its numbers.
-use Rattle.std.proofs.Common.{◌≡◌, ℕ, zero, suc, ◌+◌, ◌-◌, ◌*◌, ◌^◌, ◌<◌, ◌≤◌, sym, ap, ◌∙◌, mul-le-mul_right, add-mul, one-mul, arith}
+use Rattle.std.proofs.Common.{◌≡◌, ℕ, zero, suc, ◌+◌, ◌-◌, ◌*◌, ◌^◌, ◌<◌, ◌≤◌, sym, ap, ◌∙◌, add-mul, one-mul, arith}
 use native.Mathlib.Nat.{pow-le-pow_right}
 use Rattle.kinds.specs.Form.{Form}
 use Rattle.kinds.specs.Kind.{Kind}
 
 pub times_more : (i w : ℕ) → (i + 1) * w ≡ i * w + w
 times_more i w = add-mul i 1 w ∙ ap (λ x. i * w + x) (one-mul w)
-
--- one field more is within the fields
-pub field_within : (i count w : ℕ) → i < count → i * w + w ≤ count * w
-field_within i count w h =
-    let l : i + 1 ≤ count = omega arith in
-    let m : (i + 1) * w ≤ count * w = mul-le-mul_right w l in
-    let t = times_more i w in
-    omega arith
 
 two_columns : (w top : ℕ) → 1 ≤ top → top < 10 ^ (w - 1) → 2 ≤ w
 two_columns zero top p h = absurd (omega arith)

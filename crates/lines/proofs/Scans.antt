@@ -6,11 +6,12 @@ use Rattle.std.proofs.lemmas.Int.Digits.{digits_of_step, all_below_base_digits_o
 use Rattle.std.proofs.lemmas.List.{append-nil, append_assoc, length-append, length-map, length-replicate, map_push}
 use Rattle.std.proofs.lemmas.Bool.{cases_eq, cases_Bool, cond-true, cond-false, ne_eqb, eqb-true, and_parts}
 use Rattle.std.proofs.lemmas.Bool.Decides.{nat_tests}
+use Rattle.std.proofs.lemmas.Grind.{pow_more}
 use Rattle.lines.specs.declared.field.Seen.{Seen}
 use Rattle.lines.specs.declared.field.Seen.TheVariants.{Blanks, Number, Wrong}
 use Rattle.lines.specs.Fields.{digits, digit_byte, field, is_digit}
 use Rattle.lines.specs.Scanning.{step, SeenBelow}
-use Rattle.lines.proofs.Columns.{two, pow_more}
+use Rattle.lines.proofs.Columns.{two}
 
 -- the number that was seen
 abbrev pub found : Seen → Option ℕ
@@ -53,7 +54,7 @@ step_below (Number v) c m p h =
 step_below Wrong c m p h = tt
 
 pub seen_more : (s r : Seen) (c i : ℕ) → r ≡ step s c → SeenBelow s (10 ^ i) → SeenBelow r (10 ^ (i + 1))
-seen_more s r c i e h = rw (e, pow_more i) (step_below s c (10 ^ i) (one-le-pow i 10 (omega arith)) h)
+seen_more s r c i e h = rw (e, pow_more 10 i) (step_below s c (10 ^ i) (one-le-pow i 10 (omega arith)) h)
 
 -- A field is found to be its number.
 

@@ -4,3 +4,4 @@ pub mod Symbols
 pub mod Lines
 pub mod Writing
 pub mod Lengths
+pub mod Pen

@@ -7,11 +7,14 @@ ghost use Rattle.lines.specs.Writing.{Wrote, field_refused};
 
 use crate::write::WriteRefusal;
 use kinds::Printed;
+use thiserror::Error;
 
 // Why a field is not read, with the place of its first byte in the line, counted from 1.
-#[derive(Clone, Copy)]
+#[derive(Clone, Copy, Debug, PartialEq, Eq, Error)]
 pub enum FieldFault {
+    #[error("the field at byte {at} is not a number")]
     NotANumber { at: u32 },
+    #[error("the number at byte {at} is above its top")]
     AboveTop { at: u32 },
 }
 
@@ -31,14 +34,13 @@ impl FieldFault {
         ensures { result ≡ field_position self }
     {
         match self {
-            FieldFault::NotANumber { at } => at,
-            FieldFault::AboveTop { at } => at,
+            FieldFault::NotANumber { at } | FieldFault::AboveTop { at } => at,
         }
     }
 }
 
 // A part of a line, and the place of its first byte in the line, counted from 1.
-#[derive(Clone, Copy)]
+#[derive(Clone, Copy, Debug, PartialEq, Eq)]
 pub struct Field<'a> {
     pub bytes: &'a [u8],
     pub at: u32,
@@ -72,6 +74,7 @@ fn number_of(bytes: &[u8]) -> Option<u32>
         return None;
     }
     let mut seen = Seen::Blanks;
+    // A loop: a fold's closure would not know that few bytes have been seen, so that the number is small.
     for byte in bytes {
         seen = then(seen, *byte);
     }
@@ -83,6 +86,7 @@ fn number_of(bytes: &[u8]) -> Option<u32>
 
 impl Field<'_> {
     // The number in the field, which is at most `top`.
+    #[tactic(auto, using(crate::proofs::Numbers::inverse))]
     pub fn read(self, top: u32) -> Result<u32, FieldFault>
         ensures value { result ≡ field_read self.entry.at top self.entry.bytes.now }
         ensures within { IfOk result (λ n. n ≤ top) }
@@ -131,6 +135,7 @@ pub(crate) fn put_field(place: &mut [u8], number: u32)
     let last = place.len() - 1;
     place[last] = b'0' + (number % 10) as u8;
     let mut left = number / 10;
+    // An index: nothing is known of what a loop over iter_mut().rev() leaves behind.
     for i in (0..last).rev() {
         place[i] = column(left);
         left /= 10;
@@ -141,19 +146,7 @@ pub(crate) fn put_field(place: &mut [u8], number: u32)
 fn has_room(width: usize, number: u32) -> bool
     ensures { result ≡ nat_lt number (10 ^ width) }
 {
-    match width {
-        0 => number < 1,
-        1 => number < 10,
-        2 => number < 100,
-        3 => number < 1_000,
-        4 => number < 10_000,
-        5 => number < 100_000,
-        6 => number < 1_000_000,
-        7 => number < 10_000_000,
-        8 => number < 100_000_000,
-        9 => number < 1_000_000_000,
-        _ => true,
-    }
+    width > 9 || number < 10_u32.pow(width as u32)
 }
 
 // Writes the field of the number over the whole place, which is 1 to 8 columns wide.

@@ -2,13 +2,13 @@
 use code::Sheet;
 
 // The kinds that have a letter: B for bytes, D for digits.
-#[derive(Clone, Copy)]
+#[derive(Clone, Copy, Debug, PartialEq, Eq)]
 pub enum SymbolKind {
     Bytes,
     Digits,
 }
 
-#[derive(Clone, Copy)]
+#[derive(Clone, Copy, Debug, PartialEq, Eq)]
 pub struct Header {
     pub kind: SymbolKind,
     pub sheet: Sheet,

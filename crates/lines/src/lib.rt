@@ -3,7 +3,7 @@
 
 mod field;
 mod header;
-mod put;
+mod pen;
 mod write;
 mod writer;
 

@@ -2,22 +2,23 @@
 ghost use Rattle.std.specs.Prelude.{◌≡◌};
 ghost use Rattle.lines.specs.Writing.{write_number};
 
+use thiserror::Error;
+
 // A number is above its field's top; a row, packet or mark list has the wrong length; the place has.
-#[derive(Clone, Copy)]
+#[derive(Clone, Copy, Debug, PartialEq, Eq, Error)]
 pub enum WriteRefusal {
-    Number,
-    Length,
-    Place,
+    #[error("a number is above the top of its field")]
+    Number = 5,
+    #[error("a list has not the length that the line needs")]
+    Length = 13,
+    #[error("the place has not the length of the line")]
+    Place = 14,
 }
 
 impl WriteRefusal {
     pub fn number(self) -> u32
         ensures { result ≡ write_number self }
     {
-        match self {
-            WriteRefusal::Number => 5,
-            WriteRefusal::Length => 13,
-            WriteRefusal::Place => 14,
-        }
+        self as u32
     }
 }

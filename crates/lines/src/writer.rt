@@ -7,7 +7,7 @@ ghost use Rattle.lines.specs.Lines.{ended, kind_letter, header_line, symbols_lin
 ghost use Rattle.lines.specs.Writing.{Wrote, header_refused, symbols_refused, due_refused, missed_refused, tally_refused, fault_refused};
 
 use crate::header::{Header, SymbolKind};
-use crate::put::{put_byte, put_due_symbols, put_number, put_symbols};
+use crate::pen::LinePen;
 use crate::write::WriteRefusal;
 use code::{Mark, Sheet};
 use kinds::Printed;
@@ -30,12 +30,13 @@ pub fn write_header(place: &mut [u8], header: Header) -> Result<(), WriteRefusal
     if place.len() != 15 {
         return Err(WriteRefusal::Place);
     }
-    let next = put_byte(place, 0, b'H');
-    let next = put_byte(place, next, header.kind.letter() as u8);
-    let next = put_number(place, next, 4, header.sheet.burst);
-    let next = put_number(place, next, 4, header.sheet.row);
-    let next = put_number(place, next, 4, header.sheet.parity);
-    put_byte(place, next, b'\n');
+    let mut pen = LinePen::new(place);
+    pen.byte(b'H');
+    pen.byte(header.kind.letter() as u8);
+    pen.number(4, header.sheet.burst);
+    pen.number(4, header.sheet.row);
+    pen.number(4, header.sheet.parity);
+    pen.byte(b'\n');
     Ok(())
 }
 
@@ -59,10 +60,11 @@ fn write_symbols<P: Printed>(
     if place.len() != 10 + count * P::layout().width {
         return Err(WriteRefusal::Place);
     }
-    let next = put_byte(place, 0, letter);
-    let next = put_number(place, next, 8, number);
-    let next = put_symbols(place, next, symbols);
-    put_byte(place, next, b'\n');
+    let mut pen = LinePen::new(place);
+    pen.byte(letter);
+    pen.number(8, number);
+    pen.symbols(symbols);
+    pen.byte(b'\n');
     Ok(())
 }
 
@@ -100,9 +102,10 @@ pub fn write_missed(place: &mut [u8], number: u32) -> Result<(), WriteRefusal>
     if place.len() != 10 {
         return Err(WriteRefusal::Place);
     }
-    let next = put_byte(place, 0, b'M');
-    let next = put_number(place, next, 8, number);
-    put_byte(place, next, b'\n');
+    let mut pen = LinePen::new(place);
+    pen.byte(b'M');
+    pen.number(8, number);
+    pen.byte(b'\n');
     Ok(())
 }
 
@@ -110,12 +113,7 @@ pub fn write_missed(place: &mut [u8], number: u32) -> Result<(), WriteRefusal>
 fn any(marks: &[Mark], mark: Mark) -> bool
     ensures { result ≡ has_mark mark marks.now }
 {
-    for other in marks {
-        if other.number() == mark.number() {
-            return true;
-        }
-    }
-    false
+    marks.contains(&mark)
 }
 
 fn letter_of(marks: &[Mark]) -> u8
@@ -150,14 +148,16 @@ pub fn write_due<P: Printed>(
     if place.len() != 10 + count * P::layout().width {
         return Err(WriteRefusal::Place);
     }
-    let next = put_byte(place, 0, letter_of(marks));
-    let next = put_number(place, next, 8, number);
-    let next = put_due_symbols(place, next, row, marks);
-    put_byte(place, next, b'\n');
+    let mut pen = LinePen::new(place);
+    pen.byte(letter_of(marks));
+    pen.number(8, number);
+    pen.due_symbols(row, marks);
+    pen.byte(b'\n');
     Ok(())
 }
 
-// The E line: the slots taken, and the rows given whole, mended and lost.
+// The E line: the slots taken, and the rows given whole, mended and lost. Four numbers: a receiver's tally has them as one,
+// and this crate stands below it.
 pub fn write_tally(
     place: &mut [u8],
     slots: u32,
@@ -173,12 +173,13 @@ pub fn write_tally(
     if place.len() != 34 {
         return Err(WriteRefusal::Place);
     }
-    let next = put_byte(place, 0, b'E');
-    let next = put_number(place, next, 8, slots);
-    let next = put_number(place, next, 8, whole);
-    let next = put_number(place, next, 8, mended);
-    let next = put_number(place, next, 8, lost);
-    put_byte(place, next, b'\n');
+    let mut pen = LinePen::new(place);
+    pen.byte(b'E');
+    pen.number(8, slots);
+    pen.number(8, whole);
+    pen.number(8, mended);
+    pen.number(8, lost);
+    pen.byte(b'\n');
     Ok(())
 }
 
@@ -197,30 +198,13 @@ pub fn write_refusal(
     if place.len() != 18 {
         return Err(WriteRefusal::Place);
     }
-    let next = put_byte(place, 0, b'X');
-    let next = put_number(place, next, 8, line);
-    let next = put_number(place, next, 4, refusal);
-    let next = put_number(place, next, 4, position);
-    put_byte(place, next, b'\n');
+    let mut pen = LinePen::new(place);
+    pen.byte(b'X');
+    pen.number(8, line);
+    pen.number(4, refusal);
+    pen.number(4, position);
+    pen.byte(b'\n');
     Ok(())
-}
-
-fn length_of<P: Printed>(letter: char, sheet: Sheet) -> Option<usize>
-    ensures { result ≡ line_length P.form.layout sheet letter }
-{
-    let width = P::layout().width;
-    match letter {
-        'H' => Some(15),
-        'R' => Some(10 + sheet.row as usize * width),
-        'A' => Some(10 + sheet.packet_len() * width),
-        'M' => Some(10),
-        'W' => Some(10 + sheet.row as usize * width),
-        'N' => Some(10 + sheet.row as usize * width),
-        'L' => Some(10 + sheet.row as usize * width),
-        'E' => Some(34),
-        'X' => Some(18),
-        _ => None,
-    }
 }
 
 // The bytes of the line with this letter, byte 10 included, or none where no line has it.
@@ -228,5 +212,14 @@ pub fn line_len<P: Printed>(letter: char, sheet: Sheet) -> Option<usize>
     ensures value { result ≡ line_length P.form.layout sheet letter }
     ensures lengths { Lengths P.form sheet }
 {
-    length_of::<P>(letter, sheet)
+    let width = P::layout().width;
+    match letter {
+        'H' => Some(15),
+        'R' | 'W' | 'N' | 'L' => Some(10 + sheet.row as usize * width),
+        'A' => Some(10 + sheet.packet_len() * width),
+        'M' => Some(10),
+        'E' => Some(34),
+        'X' => Some(18),
+        _ => None,
+    }
 }

@@ -1,9 +1,10 @@
 -- Symbols that are read one after another.
-use Rattle.std.proofs.Common.{◌≡◌, ℕ, zero, suc, ◌+◌, ◌-◌, ◌<◌, ◌≤◌, List, [], ◌∷◌, ◌++◌, length, take, drop, set, Ok, Err, Result, sym, refl, ap, ◌∙◌, arith, length-set}
-use Rattle.std.proofs.lemmas.List.{append-nil, append_assoc, take_more_set, drop-drop, take_all}
+use Rattle.std.proofs.Common.{◌≡◌, ℕ, zero, suc, ◌+◌, ◌-◌, ◌*◌, ◌<◌, ◌≤◌, List, [], ◌∷◌, ◌++◌, length, take, drop, set, Ok, Err, Result, sym, refl, ap, ◌∙◌, arith}
+use Rattle.std.proofs.lemmas.List.{append-nil, append_assoc, take_more_set, take_all}
 use Rattle.kinds.specs.Form.{Form}
 use Rattle.lines.specs.declared.field.FieldFault.{FieldFault}
 use Rattle.lines.specs.Symbols.{symbol_read}
+use Rattle.lines.proofs.Rooms.{times_more}
 use Rattle.text.specs.Reading.{and_then, symbols_read, told}
 
 -- symbols before those that are read
@@ -24,6 +25,12 @@ told_one : {X E : Type 0} (x : X) (rest : Result (List X) E) → told (and_then 
 told_one x (Ok ys) = refl
 told_one x (Err e) = refl
 
+-- the widths of the fields that are left, and of one field more
+pub fields_left : (count i w : ℕ) → i < count → (count - i) * w ≡ (count - (i + 1)) * w + w
+fields_left count i w h =
+    let e : count - i ≡ count - (i + 1) + 1 = omega arith in
+    ap (λ x. x * w) e ∙ times_more (count - (i + 1)) w
+
 module _ {S : Type 0} (F : Form S) where
   abbrev width : ℕ
   width = F.layout.width
@@ -36,98 +43,56 @@ module _ {S : Type 0} (F : Form S) where
       let e : count ≡ suc count - 1 = omega arith in
       ap (λ k. before (symbol_read F at (take width fields)) (symbols_read F (at + width) k (drop width fields))) e
 
-  module _ (at w next i : ℕ) (fields : List ℕ) (place : List S) (r : Result S FieldFault)
-      (h : i < length place) (we : w ≡ F.layout.width)
-      (inv : symbols_read F at (length place) fields
-      ≡ after (take i place) (symbols_read F (at + next) (length place - i) (drop next fields)))
-      (reads : r ≡ symbol_read F (at + next) (take (next + w - next) (drop next fields)))
+  -- a turn reads the first of the fields that are left
+  module _ (at next count i : ℕ) (fields rest : List ℕ) (r : Result S FieldFault) (h : i < count)
+      (reads : r ≡ symbol_read F at (take F.layout.width fields))
+      (behind : next ≡ at + F.layout.width) (left : rest ≡ drop F.layout.width fields)
     where
-      abbrev rest : Result (List S) FieldFault
-      rest = symbols_read F (at + next + width) (length place - i - 1) (drop width (drop next fields))
+      turn : symbols_read F at (count - i) fields ≡ before r (symbols_read F next (count - (i + 1)) rest)
+      turn =
+          let k : 0 < count - i = omega arith in
+          let q : count - i - 1 ≡ count - (i + 1) = omega arith in
+          one_more at (count - i) fields k
+          ∙ (ap (λ x. before x (symbols_read F (at + width) (count - i - 1) (drop width fields))) (sym reads)
+          ∙ (ap (λ x. before r (symbols_read F (at + width) x (drop width fields))) q
+          ∙ (ap (λ x. before r (symbols_read F x (count - (i + 1)) (drop width fields))) (sym behind)
+          ∙ ap (λ x. before r (symbols_read F next (count - (i + 1)) x)) (sym left))))
 
-      went : symbols_read F at (length place) fields ≡ after (take i place) (before r rest)
-      went =
-          let k : 0 < length place - i = omega arith in
-          let c : next + w - next ≡ F.layout.width = omega arith in
-          let e : r ≡ symbol_read F (at + next) (take width (drop next fields)) =
-          reads ∙ ap (λ x. symbol_read F (at + next) (take x (drop next fields))) c in
-          inv ∙ ap (after (take i place))
-          (one_more (at + next) (length place - i) (drop next fields) k ∙ ap (λ x. before x rest) (sym e))
+      turned : (o : Result S FieldFault) → r ≡ o →
+          symbols_read F at (count - i) fields ≡ before o (symbols_read F next (count - (i + 1)) rest)
+      turned o is = turn ∙ ap (λ x. before x (symbols_read F next (count - (i + 1)) rest)) is
 
       -- a bad field ends the reading
-      pub refused : (e : FieldFault) → r ≡ Err e → symbols_read F at (length place) fields ≡ Err e
-      refused e is = went ∙ ap (λ x. after (take i place) (before x rest)) is
+      pub refused : (place : List S) (whole : Result (List S) FieldFault) →
+          whole ≡ after (take i place) (symbols_read F at (count - i) fields) → (e : FieldFault) → r ≡ Err e → whole ≡ Err e
+      refused place whole inv e is = inv ∙ ap (after (take i place)) (turned (Err e) is)
 
       -- a good one is put into the place
-      pub taken : (s : S) → r ≡ Ok s →
-          symbols_read F at (length (set place i s)) fields
-          ≡ after (take (i + 1) (set place i s))
-          (symbols_read F (at + (next + w)) (length (set place i s) - (i + 1)) (drop (next + w) fields))
-      taken s is =
-          let l : length (set place i s) ≡ length place = length-set place i s in
-          let p : at + next + F.layout.width ≡ at + (next + w) = omega arith in
-          let q : length place - i - 1 ≡ length (set place i s) - (i + 1) = omega arith in
-          let d : drop F.layout.width (drop next fields) ≡ drop (next + w) fields =
-          drop-drop width next fields ∙ ap (λ x. drop (next + x) fields) (sym we) in
-          ap (λ x. symbols_read F at x fields) l
-          ∙ (went
-          ∙ (ap (λ x. after (take i place) (before x rest)) is
-          ∙ (after_one (take i place) s rest
-          ∙ (ap (λ x. after x rest) (sym (take_more_set place i s h))
-          ∙ (ap (λ x. after (take (i + 1) (set place i s)) (symbols_read F x (length place - i - 1) (drop width (drop next fields)))) p
-          ∙ (ap (λ x. after (take (i + 1) (set place i s)) (symbols_read F (at + (next + w)) x (drop width (drop next fields)))) q
-          ∙ ap (λ x. after (take (i + 1) (set place i s)) (symbols_read F (at + (next + w)) (length (set place i s) - (i + 1)) x)) d))))))
+      pub taken : (place : List S) (whole : Result (List S) FieldFault) →
+          whole ≡ after (take i place) (symbols_read F at (count - i) fields) → i < length place → (s : S) → r ≡ Ok s →
+          whole ≡ after (take (i + 1) (set place i s)) (symbols_read F next (count - (i + 1)) rest)
+      taken place whole inv l s is =
+          inv ∙ (ap (after (take i place)) (turned (Ok s) is)
+          ∙ (after_one (take i place) s (symbols_read F next (count - (i + 1)) rest)
+          ∙ ap (λ x. after x (symbols_read F next (count - (i + 1)) rest)) (sym (take_more_set place i s l))))
 
-  pub all_read : (at next i : ℕ) (fields : List ℕ) (place : List S) → length place ≤ i →
-      symbols_read F at (length place) fields
-      ≡ after (take i place) (symbols_read F (at + next) (length place - i) (drop next fields)) →
-      symbols_read F at (length place) fields ≡ Ok place
-  all_read at next i fields place h inv =
-      let z : length place - i ≡ 0 = omega arith in
-      inv ∙ (ap (λ x. after (take i place) (symbols_read F (at + next) x (drop next fields))) z
-      ∙ ap Ok (append-nil (take i place) ∙ take_all i place h))
+      -- the same, where the symbols are only checked
+      pub check_refused : (whole : Result (List S) FieldFault) → told whole ≡ told (symbols_read F at (count - i) fields) →
+          (e : FieldFault) → r ≡ Err e → told whole ≡ Err e
+      check_refused whole inv e is = inv ∙ ap told (turned (Err e) is)
 
-  -- The same, where the symbols are only checked.
-  module _ (at count w next i : ℕ) (fields : List ℕ) (r : Result S FieldFault)
-      (h : i < count) (we : w ≡ F.layout.width)
-      (inv : told (symbols_read F at count fields) ≡ told (symbols_read F (at + next) (count - i) (drop next fields)))
-      (reads : r ≡ symbol_read F (at + next) (take (next + w - next) (drop next fields)))
-    where
-      abbrev rest_of : Result (List S) FieldFault
-      rest_of = symbols_read F (at + next + width) (count - i - 1) (drop width (drop next fields))
+      pub check_passed : (whole : Result (List S) FieldFault) → told whole ≡ told (symbols_read F at (count - i) fields) →
+          (s : S) → r ≡ Ok s → told whole ≡ told (symbols_read F next (count - (i + 1)) rest)
+      check_passed whole inv s is =
+          inv ∙ (ap told (turned (Ok s) is) ∙ told_one s (symbols_read F next (count - (i + 1)) rest))
 
-      checked : told (symbols_read F at count fields) ≡ told (before r rest_of)
-      checked =
-          let k : 0 < count - i = omega arith in
-          let c : next + w - next ≡ F.layout.width = omega arith in
-          let e : r ≡ symbol_read F (at + next) (take width (drop next fields)) =
-          reads ∙ ap (λ x. symbol_read F (at + next) (take x (drop next fields))) c in
-          inv ∙ ap told (one_more (at + next) (count - i) (drop next fields) k ∙ ap (λ x. before x rest_of) (sym e))
-
-      pub check_refused : (e : FieldFault) → r ≡ Err e → told (symbols_read F at count fields) ≡ Err e
-      check_refused e is = checked ∙ ap (λ x. told (before x rest_of)) is
-
-      pub check_passed : (s : S) → r ≡ Ok s →
-          told (symbols_read F at count fields)
-          ≡ told (symbols_read F (at + (next + w)) (count - (i + 1)) (drop (next + w) fields))
-      check_passed s is =
-          let p : at + next + F.layout.width ≡ at + (next + w) = omega arith in
-          let q : count - i - 1 ≡ count - (i + 1) = omega arith in
-          let d : drop F.layout.width (drop next fields) ≡ drop (next + w) fields =
-          drop-drop width next fields ∙ ap (λ x. drop (next + x) fields) (sym we) in
-          checked
-          ∙ (ap (λ x. told (before x rest_of)) is
-          ∙ (told_one s rest_of
-          ∙ (ap (λ x. told (symbols_read F x (count - i - 1) (drop width (drop next fields)))) p
-          ∙ (ap (λ x. told (symbols_read F (at + (next + w)) x (drop width (drop next fields)))) q
-          ∙ ap (λ x. told (symbols_read F (at + (next + w)) (count - (i + 1)) x)) d))))
-
-  pub all_checked : (at count next i : ℕ) (fields : List ℕ) → count ≤ i →
-      told (symbols_read F at count fields) ≡ told (symbols_read F (at + next) (count - i) (drop next fields)) →
-      told (symbols_read F at count fields) ≡ Ok tt
-  all_checked at count next i fields h inv =
+  -- and nothing is left
+  pub all_read : (at count i : ℕ) (fields : List ℕ) (place : List S) → count ≤ i → length place ≤ i →
+      after (take i place) (symbols_read F at (count - i) fields) ≡ Ok place
+  all_read at count i fields place h l =
       let z : count - i ≡ 0 = omega arith in
-      inv ∙ ap (λ x. told (symbols_read F (at + next) x (drop next fields))) z
+      ap (λ x. after (take i place) (symbols_read F at x fields)) z
+      ∙ ap Ok (append-nil (take i place) ∙ take_all i place l)
 
   -- as many symbols are read as there are fields
   one_longer : (count : ℕ) (r : Result S FieldFault) (rest : Result (List S) FieldFault) (xs : List S) →

@@ -8,31 +8,40 @@ ghost use Rattle.text.specs.declared.fault.RunFault.TheVariants as run;
 
 use code::{PutRefusal, SheetRefusal, SlotRefusal, TailRefusal};
 use lines::{FieldFault, WriteRefusal, write_refusal};
+use thiserror::Error;
 
 // Why a line is not read, or not taken by the end that it is read for.
-#[derive(Clone, Copy)]
+#[derive(Clone, Copy, Debug, PartialEq, Eq, Error)]
 pub enum LineFault {
     // the line is empty, or its letter is not one that the reader takes now
+    #[error("no line begins so here")]
     Letter,
-    // its length is not the one for its letter and sheet
+    #[error("the line has not the length for its letter")]
     Length,
-    // the kind letter is neither B nor D
+    #[error("the kind letter is neither B nor D")]
     Kind,
+    #[error(transparent)]
     Field(FieldFault),
-    // a row or slot number is not the next one
+    #[error("the number is not the next one")]
     Order,
+    #[error(transparent)]
     Sheet(SheetRefusal),
+    #[error(transparent)]
     Put(PutRefusal),
+    #[error(transparent)]
     Slot(SlotRefusal),
 }
 
 // Why a run ends: at a line, or in the tail, which stands on the line after the last.
-#[derive(Clone, Copy)]
+#[derive(Clone, Copy, Debug, PartialEq, Eq, Error)]
 pub enum RunFault {
+    #[error("line {line}: {fault}")]
     Line { line: u32, fault: LineFault },
+    #[error("line {line}, the tail: {refusal}")]
     Tail { line: u32, refusal: TailRefusal },
 }
 
+// The conversions are written out, so that a clause that names an error knows which one `?` makes.
 impl From<FieldFault> for LineFault {
     ghost from_gives = { λ e r. r ≡ line.Field e };
 
@@ -122,8 +131,7 @@ impl RunFault {
         ensures { result ≡ run_line self }
     {
         match self {
-            RunFault::Line { line, fault: _ } => line,
-            RunFault::Tail { line, refusal: _ } => line,
+            RunFault::Line { line, .. } | RunFault::Tail { line, .. } => line,
         }
     }
 
@@ -132,8 +140,8 @@ impl RunFault {
         ensures { result ≡ run_number self }
     {
         match self {
-            RunFault::Line { line: _, fault } => fault.number(),
-            RunFault::Tail { line: _, refusal } => refusal.number(),
+            RunFault::Line { fault, .. } => fault.number(),
+            RunFault::Tail { refusal, .. } => refusal.number(),
         }
     }
 
@@ -141,11 +149,8 @@ impl RunFault {
         ensures { result ≡ run_position self }
     {
         match self {
-            RunFault::Line { line: _, fault } => fault.position(),
-            RunFault::Tail {
-                line: _,
-                refusal: _,
-            } => 0,
+            RunFault::Line { fault, .. } => fault.position(),
+            RunFault::Tail { .. } => 0,
         }
     }
 }

@@ -1,12 +1,12 @@
 // The readers of single lines, without the byte 10 that ends them. Each tests its refusals in the order of their numbers.
-ghost use Rattle.std.specs.Prelude.{◌≡◌, ◌+◌, ◌*◌, ◌^◌, ◌<◌, ◌≤◌, length};
+ghost use Rattle.std.specs.Prelude.{◌≡◌, ◌+◌, ◌*◌, ◌^◌, ◌<◌, ◌≤◌, length, take, drop};
 ghost use Rattle.lines.specs.Fields.{field_read};
+ghost use Rattle.lines.specs.Symbols.{symbol_read};
 ghost use Rattle.text.specs.Inverse.{HeaderInverse, RowInverse, PacketInverse, MissedInverse};
-ghost use Rattle.text.specs.Reading.{begins, kind_of, header_read, symbols_read, symbols_of, missed_read, fitting, row_into, packet_into, symbols_or, holding, told};
-ghost use Rattle.text.specs.Sheets.{sheet_of};
+ghost use Rattle.text.specs.Reading.{kind_of, header_read, symbols_read, symbols_of, missed_read, fitting, row_into, packet_into, symbols_or, holding, told};
 
 use crate::fault::LineFault;
-use code::{PutRefusal, Sheet, SheetRefusal, SlotRefusal};
+use code::{PutRefusal, Sheet, SlotRefusal};
 use kinds::Printed;
 use lines::{Field, FieldFault, Header, SymbolKind};
 
@@ -28,15 +28,11 @@ fn read_number(bytes: &[u8], at: u32, top: u32) -> Result<u32, FieldFault>
     Field { bytes, at }.read(top)
 }
 
-// The sheet of the numbers in a header.
-fn sheet_of(burst: u32, row: u32, parity: u32) -> Result<Sheet, SheetRefusal>
-    ensures { result ≡ sheet_of burst row parity }
-{
-    Sheet::new(burst, row, parity)
-}
-
-fn header_in(line: &[u8]) -> Result<Header, LineFault>
-    ensures { result ≡ header_read line.now }
+// The header that an H line holds.
+#[tactic(auto, using(crate::proofs::HeaderInverse::header_inverse))]
+pub fn read_header(line: &[u8]) -> Result<Header, LineFault>
+    ensures value { result ≡ header_read line.now }
+    ensures inverse { HeaderInverse }
 {
     match line {
         [letter, kind, rest @ ..] => {
@@ -50,7 +46,7 @@ fn header_in(line: &[u8]) -> Result<Header, LineFault>
             let burst = read_number(&rest[0..4], 3, 9_999)?;
             let row = read_number(&rest[4..8], 7, 9_999)?;
             let parity = read_number(&rest[8..12], 11, 9_999)?;
-            let sheet = sheet_of(burst, row, parity)?;
+            let sheet = Sheet::new(burst, row, parity)?;
             Ok(Header { kind, sheet })
         }
         [b'H'] => Err(LineFault::Length),
@@ -58,63 +54,48 @@ fn header_in(line: &[u8]) -> Result<Header, LineFault>
     }
 }
 
-// The header that an H line holds.
-pub fn read_header(line: &[u8]) -> Result<Header, LineFault>
-    ensures value { result ≡ header_read line.now }
-    ensures inverse { HeaderInverse }
-{
-    header_in(line)
-}
-
-// Whether the line begins with this letter.
-fn has_letter(line: &[u8], letter: u8) -> bool
-    ensures { result ≡ begins letter line.now }
-{
-    match line {
-        [] => false,
-        [first, ..] => *first == letter,
-    }
-}
-
-// The symbols of fields that stand one after another, the first at the byte `at` of the line.
-fn read_fields<P: Printed>(fields: &[u8], at: u32, symbols: &mut [P]) -> Result<(), FieldFault>
-    requires fill { length fields.now ≡ length symbols.old * P.form.layout.width }
-    requires short { at + length fields.now < 2 ^ 32 }
-    ensures { symbols_read P.form at (length symbols.old) fields.now ≡ holding result symbols.new }
+// The symbol in the first field of a part, of which the rest is left.
+fn next_symbol<P: Printed>(part: &mut Field<'_>) -> Result<P, FieldFault>
+    requires fill { P.form.layout.width ≤ length part.old.bytes.now }
+    requires short { part.old.at + length part.old.bytes.now < 2 ^ 32 }
+    ensures first { result ≡ symbol_read P.form part.old.at (take P.form.layout.width part.old.bytes.now) }
+    ensures rest { part.new.bytes.now ≡ drop P.form.layout.width part.old.bytes.now }
+    ensures at { part.new.at ≡ part.old.at + P.form.layout.width }
 {
     let width = P::layout().width;
-    let mut next = 0;
-    for i in 0..symbols.len() {
-        let field = Field {
-            bytes: &fields[next..next + width],
-            at: at + next as u32,
-        };
-        symbols[i] = field.read_symbol()?;
-        next += width;
+    let (bytes, rest) = part.bytes.split_at(width);
+    let first = Field { bytes, at: part.at };
+    part.bytes = rest;
+    part.at += width as u32;
+    first.read_symbol()
+}
+
+// The symbols of a part with a field for each.
+fn read_fields<P: Printed>(mut part: Field<'_>, symbols: &mut [P]) -> Result<(), FieldFault>
+    requires fill { length part.bytes.now ≡ length symbols.old * P.form.layout.width }
+    requires short { part.at + length part.bytes.now < 2 ^ 32 }
+    ensures { symbols_read P.form part.entry.at (length symbols.old) part.entry.bytes.now ≡ holding result symbols.new }
+{
+    for symbol in symbols.iter_mut() {
+        *symbol = next_symbol(&mut part)?;
     }
     Ok(())
 }
 
-// Whether so many fields, the first at the byte `at` of the line, hold symbols.
-fn check_fields<P: Printed>(fields: &[u8], at: u32, count: usize) -> Result<(), FieldFault>
-    requires fill { length fields.now ≡ count * P.form.layout.width }
-    requires short { at + length fields.now < 2 ^ 32 }
-    ensures { result ≡ told (symbols_read P.form at count fields.now) }
+// Whether so many fields hold symbols.
+fn check_fields<P: Printed>(mut part: Field<'_>, count: usize) -> Result<(), FieldFault>
+    requires fill { length part.bytes.now ≡ count * P.form.layout.width }
+    requires short { part.at + length part.bytes.now < 2 ^ 32 }
+    ensures { result ≡ told (symbols_read P.form part.entry.at count part.entry.bytes.now) }
 {
-    let width = P::layout().width;
-    let mut next = 0;
-    for _i in 0..count {
-        let field = Field {
-            bytes: &fields[next..next + width],
-            at: at + next as u32,
-        };
-        field.read_symbol::<P>()?;
-        next += width;
+    for _ in 0..count {
+        next_symbol::<P>(&mut part)?;
     }
     Ok(())
 }
 
 // The symbols of a line with this letter. The place is written when nothing is left to refuse.
+#[tactic(auto, using(crate::proofs::Symbols::length_read))]
 fn read_symbols<P: Printed>(
     line: &[u8],
     letter: u8,
@@ -127,22 +108,25 @@ fn read_symbols<P: Printed>(
     ensures answer { result ≡ told (fitting misfit (length place.old) (symbols_of P.form letter count next line.now)) }
     ensures place { place.new ≡ symbols_or place.old (fitting misfit (length place.old) (symbols_of P.form letter count next line.now)) }
 {
-    if !has_letter(line, letter) {
+    if line.first() != Some(&letter) {
         return Err(LineFault::Letter);
     }
     if line.len() != 9 + count * P::layout().width {
         return Err(LineFault::Length);
     }
     let number = read_number(&line[1..9], 2, 999_999)?;
-    let fields = &line[9..line.len()];
-    check_fields::<P>(fields, 10, count)?;
+    let fields = Field {
+        bytes: &line[9..],
+        at: 10,
+    };
+    check_fields::<P>(fields, count)?;
     if number != next {
         return Err(LineFault::Order);
     }
     if place.len() != count {
         return Err(misfit);
     }
-    read_fields(fields, 10, place)?;
+    read_fields(fields, place)?;
     Ok(())
 }
 
@@ -188,10 +172,13 @@ pub fn read_packet<P: Printed>(
     )
 }
 
-fn missed_in(line: &[u8], next: u32) -> Result<(), LineFault>
-    ensures { result ≡ missed_read next line.now }
+// An M line, which has to have the next number.
+#[tactic(auto, using(crate::proofs::Inverses::missed_inverse))]
+pub fn read_missed(line: &[u8], next: u32) -> Result<(), LineFault>
+    ensures value { result ≡ missed_read next line.now }
+    ensures inverse { MissedInverse }
 {
-    if !has_letter(line, b'M') {
+    if line.first() != Some(&b'M') {
         return Err(LineFault::Letter);
     }
     if line.len() != 9 {
@@ -202,12 +189,4 @@ fn missed_in(line: &[u8], next: u32) -> Result<(), LineFault>
         return Err(LineFault::Order);
     }
     Ok(())
-}
-
-// An M line, which has to have the next number.
-pub fn read_missed(line: &[u8], next: u32) -> Result<(), LineFault>
-    ensures value { result ≡ missed_read next line.now }
-    ensures inverse { MissedInverse }
-{
-    missed_in(line, next)
 }

@@ -1,27 +1,29 @@
-use Rattle.std.proofs.Common.{◌+◌, ◌||◌, drop, sym, ap, ◌∙◌}
-use Rattle.std.proofs.lemmas.List.{at_drop_more, at_drop_all}
-use Rattle.std.proofs.lemmas.Bool.{eq-eqb, ne_eqb}
-use Rattle.code.specs.declared.mark.Mark.TheVariants.{Arrived}
+use Rattle.std.proofs.Common.{◌≡◌, ◌||◌, eqb, List, [], ◌∷◌, refl, ap, ◌∙◌}
+use Rattle.std.specs.List.{list_any}
+use Rattle.code.specs.Marks.{mark_number}
+use Rattle.code.specs.contracts.mark.MarkPartialEq.TheImpl.{ghosts}
+use Rattle.code.specs.declared.mark.Mark.{Mark}
+use Rattle.code.specs.declared.mark.Mark.TheVariants.{Arrived, Mended, Lost}
 use Rattle.lines.specs.Lines.{has_mark}
 use Rattle.lines.proofs.writer.any.Goals as goal
 
-pub returns-then-number : goal.returns-then-number
-returns-then-number c =
-    let marks = c.args.marks.now in
-    let i = c.loop-other.other-index in
-    let e = eq-eqb _ _ (sym c.number.ensures ∙ (c.if-number.true ∙ c.number-in-loop-other.ensures)) in
-    ap (λ x. x || has_mark c.args.mark (drop (i + 1) marks)) (sym e)
-    ∙ (sym (at_drop_more (has_mark c.args.mark) marks i Arrived c.loop-other-test.true) ∙ c.loop-other.invariant)
+-- equal marks are those of one number
+by_number : (m mark : Mark) → ghosts.eq m mark ≡ eqb (mark_number m) (mark_number mark)
+by_number Arrived Arrived = refl
+by_number Arrived Mended = refl
+by_number Arrived Lost = refl
+by_number Mended Arrived = refl
+by_number Mended Mended = refl
+by_number Mended Lost = refl
+by_number Lost Arrived = refl
+by_number Lost Mended = refl
+by_number Lost Lost = refl
 
-pub loop-other-preserved : goal.loop-other-preserved
-loop-other-preserved c =
-    let marks = c.args.marks.now in
-    let i = c.loop-other.other-index in
-    let e = ne_eqb _ _ (λ h. c.if-number.false (c.number.ensures ∙ (h ∙ sym c.number-in-loop-other.ensures))) in
-    ap (λ x. x || has_mark c.args.mark (drop (i + 1) marks)) (sym e)
-    ∙ (sym (at_drop_more (has_mark c.args.mark) marks i Arrived c.loop-other-test.true) ∙ c.loop-other.invariant)
+any_is : (mark : Mark) (marks : List Mark) → list_any (λ m. ghosts.eq m mark) marks ≡ has_mark mark marks
+any_is mark [] = refl
+any_is mark (m ∷ ms) =
+    ap (λ x. x || list_any (λ y. ghosts.eq y mark) ms) (by_number m mark)
+    ∙ ap (λ x. eqb (mark_number m) (mark_number mark) || x) (any_is mark ms)
 
 pub returns : goal.returns
-returns c =
-    sym (at_drop_all (has_mark c.args.mark) c.args.marks.now c.loop-other.other-index c.loop-other-test.false)
-    ∙ c.loop-other.invariant
+returns c = c.contains.ensures.value ∙ any_is c.args.mark c.args.marks.now

@@ -1,45 +1,33 @@
-use Rattle.std.proofs.Common.{◌≡◌, Err, sym, ap, ◌∙◌, arith}
+use Rattle.std.proofs.Common.{◌≡◌, ◌-◌, length, Err, sym, ap, ◌∙◌, arith, length-drop}
 use Rattle.std.proofs.lemmas.Result.{err_from_is_err_and}
-use Rattle.lines.proofs.Rooms.{field_within, times_more}
-use Rattle.text.proofs.Symbols.{check_refused, check_passed, all_checked}
+use Rattle.text.specs.Reading.{symbols_read}
+use Rattle.text.proofs.Symbols.{fields_left, check_refused, check_passed}
 use Rattle.text.proofs.read.check_fields.Goals as goal
 
-pub slice_bounds-field-end : goal.slice_bounds-field-end
-slice_bounds-field-end g c =
-    let k : c.layout-width.result.width ≡ g.P.Printed.form.layout.width = ap (λ x. x.width) c.layout-width.ensures in
-    let f = field_within c.loop-i._i c.args.count g.P.Printed.form.layout.width c.loop-i-test.true in
-    omega arith
-
-pub overflow_cast-field : goal.overflow_cast-field
-overflow_cast-field g c =
-    let f = field_within c.loop-i._i c.args.count g.P.Printed.form.layout.width c.loop-i-test.true in
-    omega arith
-
-pub overflow_add-field-in-loop-i : goal.overflow_add-field-in-loop-i
-overflow_add-field-in-loop-i g c =
-    let f = field_within c.loop-i._i c.args.count g.P.Printed.form.layout.width c.loop-i-test.true in
-    omega arith
-
-pub returns-in_err-read_symbol : goal.returns-in_err-read_symbol
-returns-in_err-read_symbol g c =
-    let k : c.layout-width.result.width ≡ g.P.Printed.form.layout.width = ap (λ x. x.width) c.layout-width.ensures in
+pub returns-in_err-next_symbol : goal.returns-in_err-next_symbol
+returns-in_err-next_symbol g c =
+    let F = g.P.Printed.form in
     let p = err_from_is_err_and c.from_residual.result c.from_residual.ensures.1 in
     p.1 ∙ (ap Err p.2
-    ∙ sym (check_refused g.P.Printed.form c.args.at c.args.count c.layout-width.result.width c.loop-i.next
-    c.loop-i._i c.args.fields.now c.read_symbol.result c.loop-i-test.true k c.loop-i.invariant.1
-    c.read_symbol.ensures c.in_err-read_symbol.field-0.0 c.in_err-read_symbol.was))
+    ∙ sym (check_refused F c.loop.part.at c.next_symbol.new.part.at c.args.count c.loop.counter c.loop.part.bytes.now
+    c.next_symbol.new.part.bytes.now c.next_symbol.result c.loop-test.true c.next_symbol.ensures.first
+    c.next_symbol.ensures.at c.next_symbol.ensures.rest
+    (symbols_read F c.args.part.at c.args.count c.args.part.bytes.now) c.loop.invariant.reads
+    c.in_err-next_symbol.field-0.0 c.in_err-next_symbol.was))
 
-pub loop-i-preserved : goal.loop-i-preserved
-loop-i-preserved g c =
-    let k : c.layout-width.result.width ≡ g.P.Printed.form.layout.width = ap (λ x. x.width) c.layout-width.ensures in
-    let m = times_more c.loop-i._i g.P.Printed.form.layout.width in (
-      omega arith,
-      check_passed g.P.Printed.form c.args.at c.args.count c.layout-width.result.width c.loop-i.next
-          c.loop-i._i c.args.fields.now c.read_symbol.result c.loop-i-test.true k c.loop-i.invariant.1
-          c.read_symbol.ensures c.in_ok-read_symbol.field-0 c.in_ok-read_symbol.was,
-    )
-
-pub returns : goal.returns
-returns g c =
-    sym (all_checked g.P.Printed.form c.args.at c.args.count c.loop-i.next c.loop-i._i c.args.fields.now
-    c.loop-i-test.false c.loop-i.invariant.1)
+pub loop-preserved : goal.loop-preserved
+loop-preserved g c =
+    let F = g.P.Printed.form in
+    let w = F.layout.width in
+    let l = fields_left c.args.count c.loop.counter w c.loop-test.true in
+    let d : length c.next_symbol.new.part.bytes.now ≡ length c.loop.part.bytes.now - F.layout.width =
+    ap length c.next_symbol.ensures.rest ∙ length-drop w c.loop.part.bytes.now in
+    record {
+      reads = check_passed F c.loop.part.at c.next_symbol.new.part.at c.args.count c.loop.counter c.loop.part.bytes.now
+          c.next_symbol.new.part.bytes.now c.next_symbol.result c.loop-test.true c.next_symbol.ensures.first
+          c.next_symbol.ensures.at c.next_symbol.ensures.rest
+          (symbols_read F c.args.part.at c.args.count c.args.part.bytes.now) c.loop.invariant.reads
+          c.in_ok-next_symbol.field-0 c.in_ok-next_symbol.was;
+      fill = omega arith;
+      short = omega arith;
+    }

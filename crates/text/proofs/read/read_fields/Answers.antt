@@ -1,53 +1,41 @@
-use Rattle.std.proofs.Common.{◌≡◌, ◌<◌, ◌≤◌, length, Err, sym, ap, ◌∙◌, arith}
+use Rattle.std.proofs.Common.{◌≡◌, ◌-◌, length, ap, ◌∙◌, arith, length-drop}
 use Rattle.std.proofs.lemmas.Result.{err_from_is_err_and}
-use Rattle.text.specs.Reading.{symbols_read, holding}
-use Rattle.lines.proofs.Rooms.{field_within, times_more}
-use Rattle.text.proofs.Symbols.{refused, taken, all_read}
+use Rattle.text.specs.Reading.{symbols_read}
+use Rattle.text.proofs.Symbols.{fields_left, refused, taken, all_read}
 use Rattle.text.proofs.read.read_fields.Goals as goal
 
-pub slice_bounds-field-end : goal.slice_bounds-field-end
-slice_bounds-field-end g c =
-    let k : c.layout-width.result.width ≡ g.P.Printed.form.layout.width = ap (λ x. x.width) c.layout-width.ensures in
-    let f = field_within c.loop-i.i (length c.args.symbols.now) g.P.Printed.form.layout.width c.loop-i-test.true in
-    omega arith
-
-pub overflow_cast-field : goal.overflow_cast-field
-overflow_cast-field g c =
-    let f = field_within c.loop-i.i (length c.args.symbols.now) g.P.Printed.form.layout.width c.loop-i-test.true in
-    omega arith
-
-pub overflow_add-field-in-loop-i : goal.overflow_add-field-in-loop-i
-overflow_add-field-in-loop-i g c =
-    let f = field_within c.loop-i.i (length c.args.symbols.now) g.P.Printed.form.layout.width c.loop-i-test.true in
-    omega arith
-
-pub returns-in_err-symbols : goal.returns-in_err-symbols
-returns-in_err-symbols g c =
+pub returns-in_err-symbol : goal.returns-in_err-symbol
+returns-in_err-symbol g c =
     let F = g.P.Printed.form in
-    let k : c.layout-width.result.width ≡ g.P.Printed.form.layout.width = ap (λ x. x.width) c.layout-width.ensures in
     let p = err_from_is_err_and c.from_residual.result c.from_residual.ensures.1 in
-    let h : c.loop-i.i < length c.loop-i.symbols = omega arith in
-    let r = refused F c.args.at c.layout-width.result.width c.loop-i.next c.loop-i.i c.args.fields.now
-    c.loop-i.symbols c.read_symbol.result h k c.loop-i.invariant.1 c.read_symbol.ensures
-    c.in_err-symbols.field-0.0 c.in_err-symbols.was in
-    ap (λ x. symbols_read F c.args.at x c.args.fields.now) (sym c.loop-i.auto.symbols)
-    ∙ (r ∙ (ap Err (sym p.2) ∙ ap (λ x. holding x c.loop-i.symbols) (sym p.1)))
+    let count = length c.args.symbols.now in
+    rw (p.1, p.2)
+    (refused F c.loop-symbol.part.at c.next_symbol.new.part.at count c.loop-symbol.symbol-index c.loop-symbol.part.bytes.now
+    c.next_symbol.new.part.bytes.now c.next_symbol.result c.loop-symbol-test.true c.next_symbol.ensures.first
+    c.next_symbol.ensures.at c.next_symbol.ensures.rest c.loop-symbol.symbols
+    (symbols_read F c.args.part.at count c.args.part.bytes.now) c.loop-symbol.invariant.reads
+    c.in_err-symbol.field-0.0 c.in_err-symbol.was)
 
-pub loop-i-preserved : goal.loop-i-preserved
-loop-i-preserved g c =
+pub loop-symbol-preserved : goal.loop-symbol-preserved
+loop-symbol-preserved g c =
     let F = g.P.Printed.form in
-    let k : c.layout-width.result.width ≡ g.P.Printed.form.layout.width = ap (λ x. x.width) c.layout-width.ensures in
-    let m = times_more c.loop-i.i g.P.Printed.form.layout.width in
-    let h : c.loop-i.i < length c.loop-i.symbols = omega arith in (
-      omega arith,
-      taken F c.args.at c.layout-width.result.width c.loop-i.next c.loop-i.i c.args.fields.now
-          c.loop-i.symbols c.read_symbol.result h k c.loop-i.invariant.1 c.read_symbol.ensures
-          c.in_ok-symbols.field-0 c.in_ok-symbols.was,
-    )
+    let w = F.layout.width in
+    let count = length c.args.symbols.now in
+    let l = fields_left (length c.args.symbols.now) c.loop-symbol.symbol-index w c.loop-symbol-test.true in
+    let d : length c.next_symbol.new.part.bytes.now ≡ length c.loop-symbol.part.bytes.now - F.layout.width =
+    ap length c.next_symbol.ensures.rest ∙ length-drop w c.loop-symbol.part.bytes.now in
+    record {
+      reads = taken F c.loop-symbol.part.at c.next_symbol.new.part.at count c.loop-symbol.symbol-index
+          c.loop-symbol.part.bytes.now c.next_symbol.new.part.bytes.now c.next_symbol.result
+          c.loop-symbol-test.true c.next_symbol.ensures.first c.next_symbol.ensures.at c.next_symbol.ensures.rest
+          c.loop-symbol.symbols (symbols_read F c.args.part.at count c.args.part.bytes.now)
+          c.loop-symbol.invariant.reads (omega arith) c.in_ok-symbol.field-0 c.in_ok-symbol.was;
+      fill = omega arith;
+      short = omega arith;
+    }
 
 pub returns : goal.returns
 returns g c =
-    let F = g.P.Printed.form in
-    let l : length c.loop-i.symbols ≤ c.loop-i.i = omega arith in
-    ap (λ x. symbols_read F c.args.at x c.args.fields.now) (sym c.loop-i.auto.symbols)
-    ∙ all_read F c.args.at c.loop-i.next c.loop-i.i c.args.fields.now c.loop-i.symbols l c.loop-i.invariant.1
+    c.loop-symbol.invariant.reads
+    ∙ all_read g.P.Printed.form c.loop-symbol.part.at (length c.args.symbols.now) c.loop-symbol.symbol-index
+    c.loop-symbol.part.bytes.now c.loop-symbol.symbols c.loop-symbol-test.false (omega arith)

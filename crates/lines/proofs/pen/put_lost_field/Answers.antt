@@ -1,7 +1,7 @@
 use native.Mathlib.Nat.{one-le-pow}
 use Rattle.std.proofs.Common.{length, arith}
 use Rattle.lines.proofs.Pieces.{lost_put}
-use Rattle.lines.proofs.put.put_lost_field.Goals as goal
+use Rattle.lines.proofs.pen.put_lost_field.Goals as goal
 
 pub put_field-requires : goal.put_field-requires
 put_field-requires c = record { room = one-le-pow (length c.args.part.now) 10 (omega arith); some = c.requires }
