@@ -1,4 +1,4 @@
-ghost use Rattle.std.specs.Prelude.{◌≡◌, ◌-◌, ◌<◌, ◌≤◌, [], ◌∷◌, map, length, drop, replicate, slice_index_or};
+ghost use Rattle.std.specs.Prelude.{◌≡◌, [], ◌∷◌, map, length, drop, replicate, slice_index_or};
 ghost use Rattle.std.specs.List.{range_with_len};
 ghost use Rattle.line.specs.Ring.{entered, look, symbol_back, stretch, added, Start, Piece};
 ghost use Rattle.line.specs.Line.{ring, contents, beyond, fitting, Stays};
