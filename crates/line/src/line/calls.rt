@@ -1,4 +1,4 @@
-ghost use Rattle.std.specs.Prelude.{◌≡◌, ◌-◌, ◌<◌, ◌≤◌, [], ◌∷◌, map, length, drop, replicate, slice_index_or};
+ghost use Rattle.std.specs.Prelude.{◌≡◌, [], ◌∷◌, map, length, drop, replicate, slice_index_or};
 ghost use Rattle.std.specs.List.{range_with_len};
 ghost use Rattle.line.specs.Ring.{entered, look, symbol_back, stretch, added, Start, Piece};
 ghost use Rattle.line.specs.Line.{ring, contents, beyond, fitting, Stays};
@@ -153,6 +153,7 @@ impl<'w, S: Symbol> SymbolLine<'w, S> {
     }
 
     // Writes the symbols that begin `steps` back into a place, in the order in which they went in.
+    #[tactic(auto, using(crate::proofs::Rings::piece_stretch))]
     pub fn copy_back(&self, steps: usize, place: &mut [S])
         ensures { place.new ≡ stretch S.kind.zero (contents self.now) steps (length place.old) }
     {
@@ -163,6 +164,7 @@ impl<'w, S: Symbol> SymbolLine<'w, S> {
     }
 
     // The same, one symbol at a time.
+    #[tactic(auto, using(crate::proofs::Filling::filled_more))]
     fn copy_each(&self, steps: usize, place: &mut [S])
         ensures { place.new ≡ stretch S.kind.zero (contents self.now) steps (length place.old) }
     {
@@ -182,6 +184,7 @@ impl<'w, S: Symbol> SymbolLine<'w, S> {
     }
 
     // The same, one symbol at a time.
+    #[tactic(auto, using(crate::proofs::Filling::filled_more, crate::proofs::Filling::filled_read))]
     fn add_each(&self, steps: usize, place: &mut [S])
         ensures { place.new ≡ added S.kind (contents self.now) steps place.old }
     {
@@ -195,16 +198,12 @@ impl<'w, S: Symbol> SymbolLine<'w, S> {
         ensures held { result.now ≡ self.entry.window.now }
         ensures same { result.ghost_name ≡ self.entry.window.ghost_name }
     {
-        let SymbolLine {
-            window,
-            places: _,
-            head: _,
-        } = self;
-        window
+        self.window
     }
 }
 
-// Adds symbol by symbol.
+// Adds symbol by symbol. By index, since of what a loop over a zip with `iter_mut` writes nothing would be known.
+#[tactic(auto, using(crate::proofs::Filling::filled_more, crate::proofs::Filling::filled_read))]
 fn add_piece<S: Symbol>(symbols: &[S], place: &mut [S])
     requires { length symbols.now ≡ length place.old }
     ensures { place.new ≡ map (λ i. S.kind.sum (slice_index_or symbols.now i S.kind.zero) (slice_index_or place.old i S.kind.zero)) (range_with_len 0 (length place.old)) }
