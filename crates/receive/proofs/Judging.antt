@@ -1,7 +1,9 @@
 -- The verdict on a row, by counting its marks and looking for the first lost one. Assumes nothing.
-use Rattle.std.proofs.Common.{◌≡◌, ℕ, ◌+◌, ◌<◌, ◌≤◌, Bool, true, false, cond, ltb, List, [], ◌∷◌, length, Some, None, sym, refl, ap, ◌∙◌, ap₂, inl, inr, arith}
+use Rattle.std.proofs.Common.{◌≡◌, ℕ, ◌+◌, ◌<◌, ◌≤◌, Bool, true, false, cond, ltb, List, [], ◌∷◌, length, get_or, take, Some, None, sym, refl, ap, ◌∙◌, ap₂, inl, inr, arith}
 use Rattle.std.specs.List.{count_by, position, position_or_len}
 use Rattle.std.proofs.lemmas.Bool.{cases_Bool, cond-true, cond-false, ltb-true, ltb-false, lt-ltb, le-ltb}
+use Rattle.std.proofs.lemmas.List.{take_all}
+use Rattle.std.proofs.lemmas.List.Sums.{count_by_more_yes, count_by_more_no}
 use Rattle.std.proofs.lemmas.List.Recursion.{is_count_by, is_position_or_len}
 use Rattle.code.specs.declared.mark.Mark.{Mark}
 use Rattle.receive.specs.declared.due.Verdict.{Verdict}
@@ -12,9 +14,18 @@ module _ {X : Type 0} (test : X → Bool) where
   one_or true m = refl
   one_or false m = omega arith
 
-  pub counted_by : (p : X → Bool) → ((x : X) → test x ≡ p x) → (xs : List X) → count test xs ≡ count_by p xs
-  counted_by p same = is_count_by (count test) p refl (λ x xs.
-      one_or (test x) (count test xs) ∙ ap (λ b. cond b (1 + count test xs) (count test xs)) (same x))
+  counted_by : (xs : List X) → count test xs ≡ count_by test xs
+  counted_by = is_count_by (count test) test refl (λ x xs. one_or (test x) (count test xs))
+
+  -- a count of all members, and of one member more
+  pub counted_all : (xs : List X) (i n : ℕ) → length xs ≤ i → n ≡ count_by test (take i xs) → n ≡ count test xs
+  counted_all xs i n past was = was ∙ ap (count_by test) (take_all i xs past) ∙ sym (counted_by xs)
+
+  pub counted_more : (xs : List X) (i : ℕ) (d y : X) (n m : ℕ) → i < length xs → get_or xs i d ≡ y → n ≡ count_by test (take i xs) → m ≡ n + cond (test y) 1 0 → m ≡ count_by test (take (i + 1) xs)
+  counted_more xs i d y n m within at was more = elim (cases_Bool (test y)) [
+    | inl e ↦ more ∙ ap (λ b. n + cond b 1 0) e ∙ ap (λ a. a + 1) was ∙ sym (count_by_more_yes test xs i d within (ap test at ∙ e))
+    | inr e ↦ more ∙ ap (λ b. n + cond b 1 0) e ∙ (let z : n + 0 ≡ n = omega arith in z) ∙ was ∙ sym (count_by_more_no test xs i d within (ap test at ∙ e))
+  ]
 
   pub first_at : (xs : List X) → first test xs ≡ position_or_len test xs
   first_at = is_position_or_len (first test) test refl (λ x xs. refl)
@@ -52,14 +63,6 @@ module _ {X : Type 0} (test : X → Bool) where
     | inl w ↦ let no : None ≡ Some (position_or_len test xs) = e ∙ cond-true _ _ _ w in let z : ◌≡◌ {A = ℕ} 0 1 = cc no in absurd (omega arith)
     | inr w ↦ omega (arith, ltb-false _ _ w, first_at xs)
   ]
-
--- a test for one mark
-module _ (p : Mark → Bool) (arrived : p Mark.Arrived ≡ false) where
-  pub mended_by : p Mark.Mended ≡ true → p Mark.Lost ≡ false → (marks : List Mark) → count is_mended marks ≡ count_by p marks
-  mended_by picked no-lost = counted_by is_mended p (elim [ Mark.Arrived ↦ sym arrived | Mark.Mended ↦ sym picked | Mark.Lost ↦ sym no-lost ])
-
-  pub lost_by : p Mark.Mended ≡ false → p Mark.Lost ≡ true → (marks : List Mark) → count is_lost marks ≡ count_by p marks
-  lost_by no-mended picked = counted_by is_lost p (elim [ Mark.Arrived ↦ sym arrived | Mark.Mended ↦ sym no-mended | Mark.Lost ↦ sym picked ])
 
 module _ (marks : List Mark) (m : ℕ) (has : m ≡ count is_mended marks) where
   pub lost_verdict : (l i : ℕ) → l ≡ count is_lost marks → Some i ≡ position is_lost marks → Verdict.Lost m l i ≡ verdict marks
