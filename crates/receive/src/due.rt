@@ -35,19 +35,19 @@ pub(crate) fn verdict_of(marks: &[Mark]) -> Verdict
     let mut lost = 0;
     // A loop: to filter and count twice takes longer.
     for mark in marks {
-        match mark {
-            Mark::Arrived => {}
-            Mark::Mended => mended += 1,
-            Mark::Lost => lost += 1,
-        }
+        mended += u8::from(*mark == Mark::Mended);
+        lost += u8::from(*mark == Mark::Lost);
     }
-    match first_lost(marks) {
-        Some(first) => Verdict::Lost {
+    if 0 < lost {
+        let first = first_lost(marks).unwrap_or(0) as u8;
+        Verdict::Lost {
             mended,
             lost,
-            first: first as u8,
-        },
-        None if 0 < mended => Verdict::Mended(mended),
-        None => Verdict::Whole,
+            first,
+        }
+    } else if 0 < mended {
+        Verdict::Mended(mended)
+    } else {
+        Verdict::Whole
     }
 }
