@@ -1,7 +1,9 @@
 -- The verdict on a row, by counting its marks and looking for the first lost one. Assumes nothing.
-use Rattle.std.proofs.Common.{◌≡◌, ℕ, ◌+◌, ◌<◌, ◌≤◌, Bool, true, false, cond, ltb, List, [], ◌∷◌, length, Some, None, sym, refl, ap, ◌∙◌, ap₂, inl, inr, arith}
+use Rattle.std.proofs.Common.{◌≡◌, ℕ, ◌+◌, ◌<◌, ◌≤◌, Bool, true, false, cond, ltb, List, [], ◌∷◌, length, get_or, take, Option, unwrap_or, sym, refl, ap, ◌∙◌, ap₂, inl, inr, arith}
 use Rattle.std.specs.List.{count_by, position, position_or_len}
-use Rattle.std.proofs.lemmas.Bool.{cases_Bool, cond-true, cond-false, ltb-true, ltb-false, lt-ltb, le-ltb}
+use Rattle.std.proofs.lemmas.Bool.{cases_Bool, cond-true, cond-false, lt-ltb, le-ltb}
+use Rattle.std.proofs.lemmas.List.{take_all}
+use Rattle.std.proofs.lemmas.List.Sums.{count_by_more_yes, count_by_more_no}
 use Rattle.std.proofs.lemmas.List.Recursion.{is_count_by, is_position_or_len}
 use Rattle.code.specs.declared.mark.Mark.{Mark}
 use Rattle.receive.specs.declared.due.Verdict.{Verdict}
@@ -12,71 +14,54 @@ module _ {X : Type 0} (test : X → Bool) where
   one_or true m = refl
   one_or false m = omega arith
 
-  pub counted_by : (p : X → Bool) → ((x : X) → test x ≡ p x) → (xs : List X) → count test xs ≡ count_by p xs
-  counted_by p same = is_count_by (count test) p refl (λ x xs.
-      one_or (test x) (count test xs) ∙ ap (λ b. cond b (1 + count test xs) (count test xs)) (same x))
+  counted_by : (xs : List X) → count test xs ≡ count_by test xs
+  counted_by = is_count_by (count test) test refl (λ x xs. one_or (test x) (count test xs))
+
+  -- a count of all members, and of one member more
+  pub counted_all : (xs : List X) (i n : ℕ) → length xs ≤ i → n ≡ count_by test (take i xs) → n ≡ count test xs
+  counted_all xs i n past was = was ∙ ap (count_by test) (take_all i xs past) ∙ sym (counted_by xs)
+
+  pub counted_more : (xs : List X) (i : ℕ) (d : X) (n more : ℕ) → i < length xs → n ≡ count_by test (take i xs) → more ≡ cond (test (get_or xs i d)) 1 0 → n + more ≡ count_by test (take (i + 1) xs)
+  counted_more xs i d n more within was is = elim (cases_Bool (test (get_or xs i d))) [
+    | inl e ↦ ap₂ ◌+◌ was (is ∙ ap (λ b. cond b 1 0) e) ∙ sym (count_by_more_yes test xs i d within e)
+    | inr e ↦ ap₂ ◌+◌ was (is ∙ ap (λ b. cond b 1 0) e) ∙ (let z : count_by test (take i xs) + 0 ≡ count_by test (take i xs) = omega arith in z) ∙ sym (count_by_more_no test xs i d within e)
+  ]
 
   pub first_at : (xs : List X) → first test xs ≡ position_or_len test xs
   first_at = is_position_or_len (first test) test refl (λ x xs. refl)
 
-  -- one is picked where the first one stands within the list, and else none
-  pub some_picked : (xs : List X) → first test xs < length xs → 0 < count test xs
-  some_picked [] l = absurd (omega arith)
-  some_picked (x ∷ xs) l = elim (cases_Bool (test x)) [
-    | inl e ↦ let one : cond {A = ℕ} (test x) 1 0 ≡ 1 = cond-true (test x) 1 0 e in omega arith
-    | inr e ↦
-        let later : cond (test x) 0 (1 + first test xs) ≡ 1 + first test xs = cond-false (test x) 0 (1 + first test xs) e in
-        omega (arith, some_picked xs (omega arith))
-  ]
-
-  pub none_picked : (xs : List X) → length xs ≤ first test xs → count test xs ≡ 0
-  none_picked [] l = refl
-  none_picked (x ∷ xs) l = elim (cases_Bool (test x)) [
-    | inl e ↦ let now : cond (test x) 0 (1 + first test xs) ≡ 0 = cond-true (test x) 0 (1 + first test xs) e in absurd (omega arith)
+  -- where one is picked, the first one stands within the list
+  picked_within : (xs : List X) → 0 < count test xs → first test xs < length xs
+  picked_within [] some = absurd (omega arith)
+  picked_within (x ∷ xs) some = elim (cases_Bool (test x)) [
+    | inl e ↦ let now : cond (test x) 0 (1 + first test xs) ≡ 0 = cond-true (test x) 0 (1 + first test xs) e in omega arith
     | inr e ↦
         let later : cond (test x) 0 (1 + first test xs) ≡ 1 + first test xs = cond-false (test x) 0 (1 + first test xs) e in
         let none : cond {A = ℕ} (test x) 1 0 ≡ 0 = cond-false (test x) 1 0 e in
-        omega (arith, none_picked xs (omega arith))
+        omega (arith, picked_within xs (omega arith))
   ]
 
-  pub place_is : (xs : List X) (i : ℕ) → Some i ≡ position test xs → (i ≡ first test xs) × (i < length xs)
-  place_is xs i e = elim (cases_Bool (ltb (position_or_len test xs) (length xs))) [
-    | inl w ↦
-        let same : i ≡ position_or_len test xs = cc (e ∙ cond-true _ _ _ w) in
-        (same ∙ sym (first_at xs), omega (arith, ltb-true _ _ w))
-    | inr w ↦ let no : Some i ≡ None = e ∙ cond-false _ _ _ w in let z : ◌≡◌ {A = ℕ} 0 1 = cc no in absurd (omega arith)
-  ]
+  pub place_is : (xs : List X) → 0 < count test xs → (o : Option ℕ) → o ≡ position test xs → unwrap_or o 0 ≡ first test xs
+  place_is xs some o at =
+      let within : position_or_len test xs < length xs = omega (arith, picked_within xs some, first_at xs) in
+      ap (λ p. unwrap_or p 0) (at ∙ cond-true _ _ _ (lt-ltb _ _ within)) ∙ sym (first_at xs)
 
-  pub no_place : (xs : List X) → None ≡ position test xs → length xs ≤ first test xs
-  no_place xs e = elim (cases_Bool (ltb (position_or_len test xs) (length xs))) [
-    | inl w ↦ let no : None ≡ Some (position_or_len test xs) = e ∙ cond-true _ _ _ w in let z : ◌≡◌ {A = ℕ} 0 1 = cc no in absurd (omega arith)
-    | inr w ↦ omega (arith, ltb-false _ _ w, first_at xs)
-  ]
+module _ (marks : List Mark) (m l : ℕ) (mended : m ≡ count is_mended marks) (lost : l ≡ count is_lost marks) where
+  pub lost_verdict : (i : ℕ) (o : Option ℕ) → 0 < l → o ≡ position is_lost marks → i ≡ unwrap_or o 0 → Verdict.Lost m l i ≡ verdict marks
+  lost_verdict i o some at is =
+      let picked : 0 < count is_lost marks = omega (arith, lost) in
+      ap₂ (λ a b. Verdict.Lost a b i) mended lost
+      ∙ ap (Verdict.Lost (count is_mended marks) (count is_lost marks)) (is ∙ place_is is_lost marks picked o at)
+      ∙ sym (cond-true _ _ _ (lt-ltb 0 (count is_lost marks) picked))
 
--- a test for one mark
-module _ (p : Mark → Bool) (arrived : p Mark.Arrived ≡ false) where
-  pub mended_by : p Mark.Mended ≡ true → p Mark.Lost ≡ false → (marks : List Mark) → count is_mended marks ≡ count_by p marks
-  mended_by picked no-lost = counted_by is_mended p (elim [ Mark.Arrived ↦ sym arrived | Mark.Mended ↦ sym picked | Mark.Lost ↦ sym no-lost ])
-
-  pub lost_by : p Mark.Mended ≡ false → p Mark.Lost ≡ true → (marks : List Mark) → count is_lost marks ≡ count_by p marks
-  lost_by no-mended picked = counted_by is_lost p (elim [ Mark.Arrived ↦ sym arrived | Mark.Mended ↦ sym no-mended | Mark.Lost ↦ sym picked ])
-
-module _ (marks : List Mark) (m : ℕ) (has : m ≡ count is_mended marks) where
-  pub lost_verdict : (l i : ℕ) → l ≡ count is_lost marks → Some i ≡ position is_lost marks → Verdict.Lost m l i ≡ verdict marks
-  lost_verdict l i lost at =
-      let here = place_is is_lost marks i at in
-      let some : 0 < count is_lost marks = some_picked is_lost marks (omega (arith, here)) in
-      ap₂ (λ a b. Verdict.Lost a b i) has lost ∙ ap (Verdict.Lost (count is_mended marks) (count is_lost marks)) here.0
-      ∙ sym (cond-true _ _ _ (lt-ltb 0 (count is_lost marks) some))
-
-  module _ (none : None ≡ position is_lost marks) where
+  module _ (none : l ≤ 0) where
     nothing : ltb 0 (count is_lost marks) ≡ false
-    nothing = le-ltb 0 (count is_lost marks) (omega (arith, none_picked is_lost marks (no_place is_lost marks none)))
+    nothing = le-ltb 0 (count is_lost marks) (omega (arith, lost))
 
     pub mended_verdict : 0 < m → Verdict.Mended m ≡ verdict marks
     mended_verdict some =
-        ap Verdict.Mended has
-        ∙ sym (cond-false _ _ _ nothing ∙ cond-true _ _ _ (lt-ltb 0 (count is_mended marks) (omega (arith, has))))
+        ap Verdict.Mended mended
+        ∙ sym (cond-false _ _ _ nothing ∙ cond-true _ _ _ (lt-ltb 0 (count is_mended marks) (omega (arith, mended))))
 
-    pub clean_verdict : m ≤ 0 → Verdict.Whole ≡ verdict marks
-    clean_verdict zeros = sym (cond-false _ _ _ nothing ∙ cond-false _ _ _ (le-ltb 0 (count is_mended marks) (omega (arith, has))))
+    pub whole_verdict : m ≤ 0 → Verdict.Whole ≡ verdict marks
+    whole_verdict zeros = sym (cond-false _ _ _ nothing ∙ cond-false _ _ _ (le-ltb 0 (count is_mended marks) (omega (arith, mended))))

@@ -1,6 +1,6 @@
 // The row that falls due, and what became of it.
 ghost use Rattle.std.specs.Prelude.{◌≡◌, ◌≤◌, length};
-ghost use Rattle.std.specs.List.{count_by, position};
+ghost use Rattle.std.specs.List.{position};
 ghost use Rattle.receive.specs.Handing.{is_lost, verdict};
 
 use code::Mark;
@@ -19,13 +19,6 @@ pub struct Due {
     pub verdict: Verdict,
 }
 
-// How many symbols have this mark.
-fn marked(marks: &[Mark], mark: Mark) -> usize
-    ensures { result ≡ count_by (λ x. ⟦<Mark as PartialEq>⟧.eq x mark) marks.now }
-{
-    marks.iter().filter(|x| **x == mark).count()
-}
-
 // The place of the first lost symbol.
 fn first_lost(marks: &[Mark]) -> Option<usize>
     ensures { result ≡ position is_lost marks.now }
@@ -38,14 +31,23 @@ pub(crate) fn verdict_of(marks: &[Mark]) -> Verdict
     requires { length marks.now ≤ 48 }
     ensures { result ≡ verdict marks.now }
 {
-    let mended = marked(marks, Mark::Mended) as u8;
-    match first_lost(marks) {
-        Some(first) => Verdict::Lost {
+    let mut mended = 0;
+    let mut lost = 0;
+    // A loop: to filter and count twice takes longer.
+    for mark in marks {
+        mended += u8::from(*mark == Mark::Mended);
+        lost += u8::from(*mark == Mark::Lost);
+    }
+    if 0 < lost {
+        let first = first_lost(marks).unwrap_or(0) as u8;
+        Verdict::Lost {
             mended,
-            lost: marked(marks, Mark::Lost) as u8,
-            first: first as u8,
-        },
-        None if 0 < mended => Verdict::Mended(mended),
-        None => Verdict::Whole,
+            lost,
+            first,
+        }
+    } else if 0 < mended {
+        Verdict::Mended(mended)
+    } else {
+        Verdict::Whole
     }
 }

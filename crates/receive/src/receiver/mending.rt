@@ -88,7 +88,11 @@ impl<'w, S: Symbol> Receiver<'w, S> {
             return;
         }
         let row = carrier - other.lag;
-        let end = block.len().min(other.len());
+        // the columns that both have
+        let end = self
+            .sheet
+            .parity
+            .min(self.sheet.row - block.first.max(other.first)) as usize;
         if self.heard(row) {
             let steps = self.steps_to(row, other.first as usize);
             self.line.add_back(steps, &mut sums[0..end]);
