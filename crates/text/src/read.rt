@@ -35,13 +35,7 @@ pub fn read_header(line: &[u8]) -> Result<Header, LineFault>
     ensures inverse { HeaderInverse }
 {
     match line {
-        [letter, kind, rest @ ..] => {
-            if *letter != b'H' {
-                return Err(LineFault::Letter);
-            }
-            if rest.len() != 12 {
-                return Err(LineFault::Length);
-            }
+        [b'H', kind, rest @ ..] if rest.len() == 12 => {
             let kind = kind_of(char::from(*kind))?;
             let burst = read_number(&rest[0..4], 3, 9_999)?;
             let row = read_number(&rest[4..8], 7, 9_999)?;
@@ -49,7 +43,7 @@ pub fn read_header(line: &[u8]) -> Result<Header, LineFault>
             let sheet = Sheet::new(burst, row, parity)?;
             Ok(Header { kind, sheet })
         }
-        [b'H'] => Err(LineFault::Length),
+        [b'H', ..] => Err(LineFault::Length),
         _ => Err(LineFault::Letter),
     }
 }
@@ -82,7 +76,8 @@ fn read_fields<P: Printed>(mut part: Field<'_>, symbols: &mut [P]) -> Result<(),
     Ok(())
 }
 
-// Whether so many fields hold symbols.
+// Whether so many fields hold symbols. Not inlined: among its caller's variables those of the loop would leave the registers.
+#[inline(never)]
 fn check_fields<P: Printed>(mut part: Field<'_>, count: usize) -> Result<(), FieldFault>
     requires fill { length part.bytes.now ≡ count * P.form.layout.width }
     requires short { part.at + length part.bytes.now < 2 ^ 32 }
