@@ -7,6 +7,6 @@ mod reader;
 mod standing;
 
 pub use memory::filled;
-pub use print::{print_fault, print_line};
+pub use print::{print_fault, print_with};
 pub use reader::{MendReader, RunReader, SendReader};
 pub use standing::{MendLine, SendLine, Standing};
