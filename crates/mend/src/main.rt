@@ -43,7 +43,7 @@ fn mend_slots<P: Printed, I: Read, O: Write>(
     let packet = filled(heap, P::zero(), sheet.packet_len())?;
     let row = filled(heap, P::zero(), sheet.row as usize)?;
     let marks = filled(heap, Mark::Arrived, sheet.row as usize)?;
-    let mut run = MendRun::new(heap, header, window.as_mut_slice(), packet, row, marks);
+    let mut run = MendRun::new(header, window.as_mut_slice(), packet, row, marks);
     let mut feed = LineFeed::new(heap);
     let mut printed = Vec::new(heap);
     pump(input, piece, &mut feed, &mut run, &mut printed, output)?;

@@ -2,7 +2,5 @@
 #![tactic(auto)]
 
 mod filter;
-mod opening;
 
-pub use filter::mend_text;
-pub use opening::MendOpening;
+pub use filter::{MendOpening, Mending, mend_text};

@@ -104,15 +104,3 @@ module _ {S : Type 0} (K : Kind S) (F : Form S) (p : Sheet) (t : ℕ) (mid after
         | inl l ↦ early l
         | inr l ↦ late l
       ]
-
--- a slot call over other names of the same lists
-pub slot_moved : {S : Type 0} (K : Kind S) (r r' r₁' : Receiver S) (came came₁ : Option (List S)) (row row₁ row' row₁' : List S) (marks marks₁ marks' marks₁' : List Mark) (answer : Answer) →
-    r' ≡ r₁' → came ≡ came₁ → row ≡ row₁ → row' ≡ row₁' → marks ≡ marks₁ → marks' ≡ marks₁' →
-    SlotCall K r r' came (replied row row' marks marks' answer) → SlotCall K r r₁' came₁ (replied row₁ row₁' marks₁ marks₁' answer)
-slot_moved {S} K r r' r₁' came came₁ row row₁ row' row₁' marks marks₁ marks' marks₁' answer e f g h i j call =
-    subst (λ (x : List Mark). SlotCall K r r₁' came₁ (replied row₁ row₁' marks₁ x answer)) j
-    (subst (λ (x : List Mark). SlotCall K r r₁' came₁ (replied row₁ row₁' x marks' answer)) i
-    (subst (λ (x : List S). SlotCall K r r₁' came₁ (replied row₁ x marks marks' answer)) h
-    (subst (λ (x : List S). SlotCall K r r₁' came₁ (replied x row' marks marks' answer)) g
-    (subst (λ (x : Option (List S)). SlotCall K r r₁' x (replied row row' marks marks' answer)) f
-    (subst (λ (x : Receiver S). SlotCall K r x came (replied row row' marks marks' answer)) e call)))))

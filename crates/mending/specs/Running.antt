@@ -13,7 +13,6 @@ use Rattle.receive.specs.declared.tally.Tally.{Tally}
 use Rattle.receive.specs.Memory.{need, memory}
 use Rattle.receive.specs.Handing.{Answer, replied}
 use Rattle.receive.specs.Calls.{room, tally_of, SlotCall}
-use Rattle.stream.specs.Lines.{lines_of}
 use Rattle.runs.specs.Standings.{refused_by}
 use Rattle.runs.specs.Whole.{fault_text, unless}
 use Rattle.runs.specs.declared.standing.Standing.{Standing}
@@ -103,11 +102,6 @@ module _ {S : Type 0} (K : Kind S) (F : Form S) where
         rest_of r lines
         ≡ slots_text K F p (record { window = fitting (need p) window; packet = packet; row = row; marks = marks }) (λ _. None) 0
         (tally_of 0 0 0 0) lines
-
-  -- all lines of a text were handed to a run
-  abbrev pub FedWhole : (before after : MendRun S) (text out out' : List ℕ) → Type 0
-  FedWhole before after text out out' = Sound before → stopped before ≡ false →
-      Sound after × (out' ++ rest_of after [] ≡ out ++ rest_of before (lines_of text))
 
   -- the lines have ended: what is left is printed, and the fault is told
   abbrev pub Ended : MendRun S → (out out' : List ℕ) → Option RunFault → Type 0

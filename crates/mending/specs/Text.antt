@@ -1,5 +1,5 @@
 -- The whole text that `mend` prints for a whole text, for any bytes. Assumes nothing.
-use Rattle.std.specs.Prelude.{ℕ, ◌+◌, ◌-◌, List, [], ◌∷◌, ◌++◌, map, length, Some, None, Ok, Err, Option, Result, slice_index_or}
+use Rattle.std.specs.Prelude.{ℕ, ◌+◌, ◌-◌, List, [], ◌++◌, map, length, Some, None, Option, Result, slice_index_or}
 use Rattle.std.specs.List.{range_with_len, flat_map}
 use Rattle.kinds.specs.Kind.{Kind}
 use Rattle.kinds.specs.Form.{Form}
@@ -14,9 +14,8 @@ use Rattle.lines.specs.declared.header.Header.{Header}
 use Rattle.lines.specs.declared.header.SymbolKind.{SymbolKind}
 use Rattle.text.specs.declared.fault.LineFault.{LineFault}
 use Rattle.text.specs.declared.fault.RunFault.TheVariants as run
-use Rattle.text.specs.Reading.{header_read}
-use Rattle.stream.specs.Lines.{lines_of}
 use Rattle.runs.specs.Whole.{sums_of, form_of, fault_text, Read, reading, slot_read}
+use Rattle.opening.specs.Headed as headed
 use Rattle.mending.specs.Printing.{due_text, tally_text}
 
 -- the packet of each slot that arrived
@@ -56,15 +55,21 @@ module _ {S : Type 0} (K : Kind S) (F : Form S) (p : Sheet) where
 abbrev pub body_text : (kind : SymbolKind) → Sheet → List (List ℕ) → List ℕ
 body_text kind p lines = list_text (sums_of kind) (form_of kind) p (reading (slot_read (form_of kind) p) 0 lines)
 
+-- nothing is printed of a header ..
+abbrev pub echo : Header → List ℕ
+echo header = []
+
+-- .. and this is what the lines after it bring
+abbrev pub body : Header → List (List ℕ) → List ℕ
+body header lines = body_text header.kind header.sheet lines
+
 -- what follows the header, or the X line of its fault
 abbrev pub headed_text : Result Header LineFault → List (List ℕ) → List ℕ
-headed_text (Err e) lines = fault_text (run.Line 1 e)
-headed_text (Ok header) lines = body_text header.kind header.sheet lines
+headed_text = headed.headed_text echo body
 
 -- no line at all is one empty line
 abbrev pub lines_text : List (List ℕ) → List ℕ
-lines_text [] = headed_text (header_read []) []
-lines_text (line ∷ lines) = headed_text (header_read line) lines
+lines_text = headed.lines_text echo body
 
 abbrev pub mend_text : List ℕ → List ℕ
-mend_text text = lines_text (lines_of text)
+mend_text = headed.whole_text echo body

@@ -2,7 +2,6 @@
 use code::{Mark, Sheet};
 use receive::Receiver;
 use runs::MendReader;
-use std::alloc::Global;
 
 pub(crate) mod calls;
 
@@ -14,5 +13,4 @@ pub struct MendRun<'w, P> {
     packet: Vec<P>,
     row: Vec<P>,
     marks: Vec<Mark>,
-    heap: Global,
 }

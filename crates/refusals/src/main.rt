@@ -126,7 +126,7 @@ fn lent(
             kind: SymbolKind::Digits,
             sheet,
         };
-        let mut run = SendRun::new(heap, header, window.as_mut_slice(), row, packet);
+        let mut run = SendRun::new(header, window.as_mut_slice(), row, packet);
         run.take_line(b"R       0 1 2 3 4", &mut printed)?;
     }
     show(rt, what, printed.as_slice())

@@ -28,9 +28,6 @@ pub longer : (begun more : List ℕ) (top : ℕ) → top < length begun → top 
 longer begun more top l = omega (arith, length-append begun more)
 
 module _ {S : Type 0} (F : Form S) where
-  pub other_letter : (letter count next : ℕ) (line : List ℕ) → begins letter line ≡ false → symbols_of F letter count next line ≡ Err fault.Letter
-  other_letter letter count next line other = cond-false _ _ _ other
-
   pub too_long : (letter count next : ℕ) (line : List ℕ) → begins letter line ≡ true → 9 + count * F.layout.width < length line →
       symbols_of F letter count next line ≡ Err fault.Length
   too_long letter count next line is l = cond-true _ _ _ is ∙ cond-false _ _ _ (ne_eqb (length line) (9 + count * F.layout.width) (λ e. omega arith))
@@ -39,18 +36,10 @@ module _ {S : Type 0} (F : Form S) where
   pub within_longest : (count : ℕ) → count ≤ 64 → 9 + count * F.layout.width ≤ 521
   within_longest count few = let room : count * F.layout.width ≤ 64 * 8 = mul-le-mul few F.width_small in omega arith
 
-pub missed_other : (next : ℕ) (line : List ℕ) → begins 77 line ≡ false → missed_read next line ≡ Err fault.Letter
-missed_other next line other = cond-false _ _ _ other
-
 pub missed_long : (next : ℕ) (line : List ℕ) → begins 77 line ≡ true → 9 < length line → missed_read next line ≡ Err fault.Length
 missed_long next line is l = cond-true _ _ _ is ∙ cond-false _ _ _ (ne_eqb (length line) 9 (λ e. omega arith))
 
--- a header's line by its letter and its length
-pub header_other : (line : List ℕ) → begins 72 line ≡ false → header_read line ≡ Err fault.Letter
-header_other [] other = refl
-header_other (c ∷ []) other = cond-false _ _ _ other
-header_other (c ∷ (d ∷ rest)) other = cond-false _ _ _ other
-
+-- a header's line by its length
 pub header_long : (line : List ℕ) → begins 72 line ≡ true → 14 < length line → header_read line ≡ Err fault.Length
 header_long [] is l = absurd (omega arith)
 header_long (c ∷ []) is l = absurd (omega arith)

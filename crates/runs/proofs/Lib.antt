@@ -1,4 +1,3 @@
-pub mod RunReads
-pub mod Printed
 pub mod Positions
 pub mod Early
+pub mod Numbered

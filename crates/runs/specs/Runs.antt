@@ -43,11 +43,6 @@ abbrev pub standing_of : {L : Type 0} → Result (Given L) RunFault → Standing
 standing_of (Ok given) = given.1
 standing_of (Err e) = Stopped e
 
--- the same, where a fault leaves the standing as it is
-abbrev pub standing_or : {L : Type 0} → Standing → Result (Given L) RunFault → Standing
-standing_or standing (Ok given) = given.1
-standing_or standing (Err e) = standing
-
 -- `place` is the length of the place that is handed over for the symbols.
 module _ {S : Type 0} (F : Form S) where
   -- before the header, `send` takes an H line

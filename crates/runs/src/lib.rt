@@ -2,13 +2,11 @@
 #![tactic(auto)]
 
 mod memory;
-mod mend;
 mod print;
-mod send;
+mod reader;
 mod standing;
 
 pub use memory::filled;
-pub use mend::MendReader;
-pub use print::{print_fault, print_line};
-pub use send::SendReader;
+pub use print::{print_fault, print_with};
+pub use reader::{MendReader, RunReader, SendReader};
 pub use standing::{MendLine, SendLine, Standing};

@@ -7,9 +7,8 @@ use std::alloc::{AllocError, Global};
 pub fn filled<T: Copy>(heap: Global, value: T, len: usize) -> Result<Vec<T>, AllocError>
     ensures { IfOk result (λ v. v.items ≡ replicate len value) }
 {
-    let mut places = Vec::with_capacity(heap, len)?;
-    for _i in 0..len {
-        places.push(value)?;
-    }
+    // Not `vec!`: it clones, and a clone of a T need not be equal to it.
+    let mut places = Vec::new(heap);
+    places.resize(len, value)?;
     Ok(places)
 }

@@ -1,5 +1,6 @@
 // Lines that are printed behind what is printed already.
-ghost use Rattle.std.specs.Prelude.{◌≡◌, ◌++◌, OnOk};
+ghost use Rattle.std.specs.Prelude.{◌≡◌, ◌++◌, replicate, OnOk};
+ghost use Rattle.std.specs.Fn.{FnOnceReturnsAtMut};
 ghost use Rattle.lines.specs.Writing.{fault_refused};
 ghost use Rattle.text.specs.Faults.{run_line, run_number, run_position};
 ghost use Rattle.runs.specs.Whole.{fault_text, written_text, unless};
@@ -8,17 +9,22 @@ use lines::WriteRefusal;
 use std::alloc::AllocError;
 use text::{RunFault, write_fault};
 
-// Prints a line that was written, and nothing where it was not.
-pub fn print_line(
-    written: Result<(), WriteRefusal>,
-    line: &[u8],
+// Prints a line of this length, which is written into its place, and nothing where it is not written.
+pub fn print_with<F: FnOnce(&mut [u8]) -> Result<(), WriteRefusal>>(
+    len: usize,
+    write: F,
     out: &mut Vec<u8>,
 ) -> Result<(), AllocError>
-    ensures { OnOk result (out.new.items ≡ out.old.items ++ written_text written line.now) }
+    requires { F.IsAlwaysCallable write }
+    ensures { OnOk result ((written : _) × (line : _) × FnOnceReturnsAtMut F.FnOnce write (replicate len 0) written line × (out.new.items ≡ out.old.items ++ written_text written line)) }
 {
-    match written {
-        Ok(()) => out.extend_from_slice(line)?,
-        Err(_) => {}
+    let start = out.len();
+    out.reserve(len)?;
+    out.resize(start + len, 0)?;
+    let place = &mut out.as_mut_slice()[start..];
+    match write(place) {
+        Ok(()) => {}
+        Err(_) => out.truncate(start),
     }
     Ok(())
 }
@@ -27,8 +33,6 @@ pub fn print_line(
 pub fn print_fault(fault: RunFault, out: &mut Vec<u8>) -> Result<(), AllocError>
     ensures { OnOk result (out.new.items ≡ out.old.items ++ unless (fault_refused (run_line fault) (run_number fault) (run_position fault) 18) (fault_text fault)) }
 {
-    let mut line = [0; 18];
-    let written = write_fault(&mut line, fault);
-    print_line(written, &line, out)?;
+    print_with(18, |line| write_fault(line, fault), out)?;
     Ok(())
 }

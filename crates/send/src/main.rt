@@ -38,7 +38,7 @@ fn send_rows<P: Printed, I: Read, O: Write>(
     let mut window = filled(heap, P::zero(), window_len(sheet))?;
     let row = filled(heap, P::zero(), sheet.row as usize)?;
     let packet = filled(heap, P::zero(), sheet.packet_len())?;
-    let mut run = SendRun::new(heap, header, window.as_mut_slice(), row, packet);
+    let mut run = SendRun::new(header, window.as_mut_slice(), row, packet);
     let mut feed = LineFeed::new(heap);
     let mut printed = Vec::new(heap);
     pump(input, piece, &mut feed, &mut run, &mut printed, output)?;

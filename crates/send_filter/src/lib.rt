@@ -2,7 +2,5 @@
 #![tactic(auto)]
 
 mod filter;
-mod opening;
 
-pub use filter::send_text;
-pub use opening::SendOpening;
+pub use filter::{SendOpening, Sending, send_text};

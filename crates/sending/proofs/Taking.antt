@@ -54,15 +54,6 @@ pub lent_path : (a b : Lent) → a.window ≡ b.window → a.row ≡ b.row → a
 lent_path a b e f g =
     ap (λ x. lengths x a.row a.packet) e ∙ ap (λ x. lengths b.window x a.packet) f ∙ ap (λ x. lengths b.window b.row x) g
 
--- a putting call over other names of the same lists
-pub put_moved : {S : Type 0} (K : Kind S) (s s' : Sender S) (row row₁ place place₁ place' place₁' : List S) (a a₁ : Result (Unit {0}) PutRefusal) →
-    row ≡ row₁ → place ≡ place₁ → place' ≡ place₁' → a ≡ a₁ → PutCall K s s' (putting row place place' a) → PutCall K s s' (putting row₁ place₁ place₁' a₁)
-put_moved {S} K s s' row row₁ place place₁ place' place₁' a a₁ e f g h call =
-    subst (λ (x : Result (Unit {0}) PutRefusal). PutCall K s s' (putting row₁ place₁ place₁' x)) h
-    (subst (λ (x : List S). PutCall K s s' (putting row₁ place₁ x a)) g
-    (subst (λ (x : List S). PutCall K s s' (putting row₁ x place' a)) f
-    (subst (λ (x : List S). PutCall K s s' (putting x place place' a)) e call)))
-
 module _ {S : Type 0} (F : Form S) where
   -- what a row's line gives to a reader in the run
   abbrev pub given_row : Header → ℕ → Result (List S) LineFault → Result (Given SendLine) RunFault

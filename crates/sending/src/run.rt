@@ -1,7 +1,6 @@
 // A sending run after its header: it reads rows, puts them, and prints their packets.
 use code::Sheet;
 use runs::SendReader;
-use std::alloc::Global;
 use transmit::Sender;
 
 pub(crate) mod calls;
@@ -13,5 +12,4 @@ pub struct SendRun<'w, P> {
     sender: Sender<'w, P>,
     row: Vec<P>,
     packet: Vec<P>,
-    heap: Global,
 }

@@ -21,9 +21,9 @@ pub(crate) fn print_tail<P: Printed>(
     requires { rows ≤ 1000000 }
     ensures { IfOk result (λ fault. TailPrinted P.kind P.form sheet rows winding.old (length packet.old) out.old.items out.new.items fault) }
 {
-    for i in 0..sheet.delay {
+    for slot in rows..rows + sheet.delay {
         match winding.tail(packet) {
-            Ok(()) => print_packet(sheet, rows + i, packet, out)?,
+            Ok(()) => print_packet(sheet, slot, packet, out)?,
             Err(refusal) => {
                 let fault = RunFault::Tail {
                     line: rows + 2,

@@ -8,15 +8,13 @@ use kinds::Printed;
 use lines::Header;
 use receive::{Due, Receiver};
 use runs::{MendLine, MendReader, Standing, print_fault};
-use std::alloc::{AllocError, Global};
-use std::mem::replace;
+use std::alloc::AllocError;
 use stream::LineRun;
 use text::{LineFault, RunFault};
 
 impl<'w, P: Printed> MendRun<'w, P> {
     // A run on the sheet of this header, over a window and places of any length.
     pub fn new(
-        heap: Global,
         header: Header,
         window: &'w mut [P],
         packet: Vec<P>,
@@ -32,7 +30,6 @@ impl<'w, P: Printed> MendRun<'w, P> {
             packet,
             row,
             marks,
-            heap,
         }
     }
 
@@ -41,7 +38,7 @@ impl<'w, P: Printed> MendRun<'w, P> {
         ensures { IfOk result (λ fault. Ended P.kind P.form self.entry out.old.items out.new.items fault) }
     {
         match self.reader.standing() {
-            Standing::InRun { header: _, next: _ } => {
+            Standing::InRun { .. } => {
                 print_tally(self.receiver.tally(), out)?;
                 Ok(None)
             }
@@ -79,17 +76,11 @@ impl<'w, P: Printed> MendRun<'w, P> {
     fn take_arrived(&mut self, out: &mut Vec<u8>) -> Result<(), AllocError>
         ensures { OnOk result (SlotTaken P.kind P.form self.old self.new (Some self.old.packet.items) out.old.items out.new.items) }
     {
-        let packet = replace(&mut self.packet, Vec::new(self.heap));
-        let mut row = replace(&mut self.row, Vec::new(self.heap));
-        let mut marks = replace(&mut self.marks, Vec::new(self.heap));
         let answer = self.receiver.arrived(
-            packet.as_slice(),
-            row.as_mut_slice(),
-            marks.as_mut_slice(),
+            self.packet.as_slice(),
+            self.row.as_mut_slice(),
+            self.marks.as_mut_slice(),
         );
-        self.packet = packet;
-        self.row = row;
-        self.marks = marks;
         self.print_answer(answer, out)?;
         Ok(())
     }
@@ -98,13 +89,9 @@ impl<'w, P: Printed> MendRun<'w, P> {
     fn take_missed(&mut self, out: &mut Vec<u8>) -> Result<(), AllocError>
         ensures { OnOk result (SlotTaken P.kind P.form self.old self.new None out.old.items out.new.items) }
     {
-        let mut row = replace(&mut self.row, Vec::new(self.heap));
-        let mut marks = replace(&mut self.marks, Vec::new(self.heap));
         let answer = self
             .receiver
-            .missed(row.as_mut_slice(), marks.as_mut_slice());
-        self.row = row;
-        self.marks = marks;
+            .missed(self.row.as_mut_slice(), self.marks.as_mut_slice());
         self.print_answer(answer, out)?;
         Ok(())
     }
@@ -118,17 +105,10 @@ impl<'w, P: Printed> LineRun for MendRun<'w, P> {
     ghost paused = { stopped };
 
     fn take_line(&mut self, line: &[u8], out: &mut Vec<u8>) -> Result<(), AllocError> {
-        let mut reader = self.reader;
-        let read = reader.read(line, self.packet.as_mut_slice());
-        self.reader = reader;
-        match read {
-            Ok(given) => {
-                if let MendLine::Arrived { number: _ } = given {
-                    self.take_arrived(out)?;
-                } else if let MendLine::Missed { number: _ } = given {
-                    self.take_missed(out)?;
-                }
-            }
+        match self.reader.read(line, self.packet.as_mut_slice()) {
+            Ok(MendLine::Arrived { .. }) => self.take_arrived(out)?,
+            Ok(MendLine::Missed { .. }) => self.take_missed(out)?,
+            Ok(MendLine::Header(_)) => {}
             Err(fault) => print_fault(fault, out)?,
         }
         Ok(())
@@ -147,9 +127,6 @@ impl<'w, P: Printed> LineRun for MendRun<'w, P> {
     }
 
     fn is_paused(&self) -> bool {
-        match self.reader.standing() {
-            Standing::InRun { header: _, next: _ } => false,
-            Standing::BeforeHeader | Standing::Stopped(_) => true,
-        }
+        !matches!(self.reader.standing(), Standing::InRun { .. })
     }
 }

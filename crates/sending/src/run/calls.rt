@@ -8,21 +8,14 @@ use crate::tail::print_tail;
 use kinds::Printed;
 use lines::Header;
 use runs::{SendLine, SendReader, Standing, print_fault};
-use std::alloc::{AllocError, Global};
-use std::mem::replace;
+use std::alloc::AllocError;
 use stream::LineRun;
 use text::{LineFault, RunFault};
 use transmit::Sender;
 
 impl<'w, P: Printed> SendRun<'w, P> {
     // A run on the sheet of this header, over a window and places of any length.
-    pub fn new(
-        heap: Global,
-        header: Header,
-        window: &'w mut [P],
-        row: Vec<P>,
-        packet: Vec<P>,
-    ) -> SendRun<'w, P>
+    pub fn new(header: Header, window: &'w mut [P], row: Vec<P>, packet: Vec<P>) -> SendRun<'w, P>
         ensures { NewRun P.kind P.form header.sheet (length window.old) (length row.items) (length packet.items) result }
     {
         SendRun {
@@ -31,7 +24,6 @@ impl<'w, P: Printed> SendRun<'w, P> {
             sender: Sender::new(header.sheet, window),
             row,
             packet,
-            heap,
         }
     }
 
@@ -45,7 +37,6 @@ impl<'w, P: Printed> SendRun<'w, P> {
             sender,
             row: _,
             mut packet,
-            heap: _,
         } = self;
         match reader.standing() {
             Standing::InRun { header: _, next } => {
@@ -63,12 +54,10 @@ impl<'w, P: Printed> SendRun<'w, P> {
     fn put_row(&mut self, slot: u32, out: &mut Vec<u8>) -> Result<(), AllocError>
         ensures { OnOk result (RowPut P.kind P.form self.old self.new slot out.old.items out.new.items) }
     {
-        let row = replace(&mut self.row, Vec::new(self.heap));
-        let mut packet = replace(&mut self.packet, Vec::new(self.heap));
-        let answer = self.sender.put(row.as_slice(), packet.as_mut_slice());
-        self.row = row;
-        self.packet = packet;
-        match answer {
+        match self
+            .sender
+            .put(self.row.as_slice(), self.packet.as_mut_slice())
+        {
             Ok(()) => print_packet(self.sheet, slot, self.packet.as_slice(), out)?,
             Err(refusal) => {
                 let fault = self.reader.refuse(LineFault::Put(refusal));
@@ -87,15 +76,9 @@ impl<'w, P: Printed> LineRun for SendRun<'w, P> {
     ghost paused = { stopped };
 
     fn take_line(&mut self, line: &[u8], out: &mut Vec<u8>) -> Result<(), AllocError> {
-        let mut reader = self.reader;
-        let read = reader.read(line, self.row.as_mut_slice());
-        self.reader = reader;
-        match read {
-            Ok(given) => {
-                if let SendLine::Row { number } = given {
-                    self.put_row(number, out)?;
-                }
-            }
+        match self.reader.read(line, self.row.as_mut_slice()) {
+            Ok(SendLine::Row { number }) => self.put_row(number, out)?,
+            Ok(SendLine::Header(_)) => {}
             Err(fault) => print_fault(fault, out)?,
         }
         Ok(())
@@ -110,9 +93,6 @@ impl<'w, P: Printed> LineRun for SendRun<'w, P> {
     }
 
     fn is_paused(&self) -> bool {
-        match self.reader.standing() {
-            Standing::InRun { header: _, next: _ } => false,
-            Standing::BeforeHeader | Standing::Stopped(_) => true,
-        }
+        !matches!(self.reader.standing(), Standing::InRun { .. })
     }
 }

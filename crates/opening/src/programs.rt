@@ -1,0 +1,26 @@
+// What begins with a header and goes on by its kind.
+ghost use Rattle.std.specs.Prelude.{◌≡◌, ℕ, List, ◌++◌, OnOk};
+ghost use Rattle.lines.specs.declared.header.Header.{Header};
+ghost use Rattle.stream.specs.Lines.{lines_of};
+
+use lines::Header;
+use std::alloc::{AllocError, Global};
+
+pub trait Program {
+    // What is printed of the header.
+    ghost echo: { Header → List ℕ };
+
+    // What the lines after the header bring.
+    ghost body: { Header → List (List ℕ) → List ℕ };
+
+    fn print_header(header: Header, out: &mut Vec<u8>) -> Result<(), AllocError>
+        ensures { OnOk result (out.new.items ≡ out.old.items ++ echo header) };
+
+    fn print_body(
+        heap: Global,
+        header: Header,
+        text: &[u8],
+        out: &mut Vec<u8>,
+    ) -> Result<(), AllocError>
+        ensures { OnOk result (out.new.items ≡ out.old.items ++ body header (lines_of text.now)) };
+}
