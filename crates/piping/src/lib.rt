@@ -2,7 +2,5 @@
 #![tactic(auto)]
 
 mod flow;
-mod pieces;
 
-pub use flow::{pump, write_out};
-pub use pieces::Piece;
+pub use flow::{in_pieces, pump, write_out};
