@@ -2,5 +2,7 @@
 #![tactic(auto)]
 
 mod flow;
+mod program;
 
 pub use flow::{in_pieces, pump, write_out};
+pub use program::run_filter;
