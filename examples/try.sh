@@ -5,4 +5,6 @@ cd "$(dirname "$0")/.." || exit 1
 for program in send mend; do
     (cd "crates/$program" && rt run < stdin > /dev/null) || exit 1
 done
-crates/send/out/send examples/exhibits.txt | sed -E '/^A       [345]/s/^A(.{8}).*/M\1/' | tee /dev/stderr | crates/mend/out/mend
+heard=$(crates/send/out/send examples/exhibits.txt | sed -E '/^A       [345]/s/^A(.{8}).*/M\1/')
+printf '%s\n' "$heard" >&2
+printf '%s\n' "$heard" | crates/mend/out/mend

@@ -4,10 +4,7 @@ use line::SymbolLine;
 
 // The number of the symbol so many steps back.
 fn back(line: &SymbolLine<'_, Digit>, steps: usize) -> Option<u32> {
-    match line.back(steps) {
-        Some(digit) => Some(digit.number()),
-        None => None,
-    }
+    line.back(steps).map(|digit| digit.number())
 }
 
 #[test]

@@ -1,67 +1,53 @@
 // A sender's refusals, in their order, and that they leave the place as it was.
-use code::Sheet;
+use code::{PutRefusal, Sheet};
 use kinds::{Digit, Printed};
 use std::process::Abort;
-use std::test::Fail;
 use transmit::{Sender, WindingSender};
 
 const ROW: [Digit; 4] = [Digit::D1, Digit::D2, Digit::D3, Digit::D4];
 
-// The refusal's number for a row and a place of so many symbols, over a window of so many.
-fn put(rt: &impl Abort, window: usize, row: usize, place: usize) -> Result<u32, Fail> {
-    let sheet = match Sheet::new(3, 4, 2) {
-        Ok(sheet) => sheet,
-        Err(_) => return Err(Fail::new("no sheet")),
-    };
+// Puts a row of so many symbols, with a place of so many for its packet, over a window of so many; a refusal by its number.
+fn put(rt: &impl Abort, window: usize, row: usize, place: usize) -> Result<(), u32> {
+    let sheet = Sheet::new(3, 4, 2).ok().expect(rt, "no sheet");
     let mut lent = [Digit::D9; 24];
     let mut packet = [Digit::D9; 7];
     assert!(rt; window <= 24 && row <= 4 && place <= 7);
-    let mut sender = Sender::new(sheet, &mut lent[0..window]);
-    match sender.put(&ROW[0..row], &mut packet[0..place]) {
-        Ok(()) => {
-            assert_eq!(rt; packet[0].number(), 1);
-            Ok(0)
-        }
-        Err(refusal) => {
-            assert_eq!(rt; packet[0].number(), 9);
-            Ok(refusal.number())
-        }
-    }
+    let answer = Sender::new(sheet, &mut lent[..window])
+        .put(&ROW[..row], &mut packet[..place])
+        .map_err(PutRefusal::number);
+    assert_eq!(rt; packet[0].number(), if answer.is_ok() { 1 } else { 9 });
+    answer
 }
 
 #[test]
-fn refusals(rt: HostRuntime) -> Result<(), Fail> {
-    assert_eq!(rt; put(&rt, 24, 4, 6)?, 0);
-    assert_eq!(rt; put(&rt, 23, 4, 6)?, 11);
-    assert_eq!(rt; put(&rt, 0, 3, 5)?, 11);
-    assert_eq!(rt; put(&rt, 24, 3, 6)?, 13);
-    assert_eq!(rt; put(&rt, 24, 0, 7)?, 13);
-    assert_eq!(rt; put(&rt, 24, 4, 5)?, 14);
-    assert_eq!(rt; put(&rt, 24, 4, 7)?, 14);
-    Ok(())
+fn refusals(rt: HostRuntime) {
+    assert_eq!(rt; put(&rt, 24, 4, 6), Ok(()));
+    assert_eq!(rt; put(&rt, 23, 4, 6), Err(11));
+    assert_eq!(rt; put(&rt, 0, 3, 5), Err(11));
+    assert_eq!(rt; put(&rt, 24, 3, 6), Err(13));
+    assert_eq!(rt; put(&rt, 24, 0, 7), Err(13));
+    assert_eq!(rt; put(&rt, 24, 4, 5), Err(14));
+    assert_eq!(rt; put(&rt, 24, 4, 7), Err(14));
 }
 
-// Draws tail packets until one is refused; answers how many were given.
-fn tails(winding: &mut WindingSender<'_, Digit>) -> (u32, u32) {
+// Draws tail packets until one is refused: how many were given, and the refusal's number.
+fn tails(winding: &mut WindingSender<'_, Digit>) -> Option<(u32, u32)> {
     for given in 0..10 {
         let mut packet = [Digit::D9; 6];
         if let Err(refusal) = winding.tail(&mut packet) {
-            return (given, refusal.number());
+            return Some((given, refusal.number()));
         }
     }
-    (10, 0)
+    None
 }
 
 #[test]
-fn six_tail_packets(rt: HostRuntime) -> Result<(), Fail> {
+fn six_tail_packets(rt: HostRuntime) {
+    let sheet = Sheet::new(3, 4, 2).ok().expect(&rt, "no sheet");
     let mut lent = [Digit::D9; 24];
-    let Ok(sheet) = Sheet::new(3, 4, 2) else {
-        return Err(Fail::new("no sheet"));
-    };
     let mut winding = Sender::new(sheet, &mut lent).wind_down();
     let given = tails(&mut winding);
     let sent = winding.end();
-    assert_eq!(rt; given, (6, 15));
+    assert_eq!(rt; given, Some((6, 15)));
     assert_eq!(rt; (sent.rows, sent.tails), (0, 6));
-    Ok(())
 }

@@ -1,13 +1,12 @@
 // Which numbers make a sheet.
-use code::Sheet;
+use code::{Sheet, SheetRefusal};
 use kinds::{Byte, Digit, Printed, Symbol};
 
-// The refusal's number, or the delay of the sheet that was made.
+// The delay of the sheet that was made, or the refusal's number.
 fn made(burst: u32, row: u32, parity: u32) -> Result<u32, u32> {
-    match Sheet::new(burst, row, parity) {
-        Ok(sheet) => Ok(sheet.delay),
-        Err(refusal) => Err(refusal.number()),
-    }
+    Sheet::new(burst, row, parity)
+        .map(|sheet| sheet.delay)
+        .map_err(SheetRefusal::number)
 }
 
 #[test]

@@ -1,142 +1,151 @@
 -- A turn of the loop that feeds a run with an input, over plain values. Assumes nothing.
-use Rattle.std.proofs.Common.{◌≡◌, ℕ, Bool, true, false, List, [], ◌++◌, length, drop, Some, None, Option, sym, refl, ap, ap₂, ◌∙◌, subst, append_assoc, arith, ◌∷◌, ◌<◌, ◌↔◌, IsTrue}
-use Rattle.std.proofs.Math.Seq.{drop-length}
-use Rattle.std.specs.Io.KnownBytes.{Appends, Consumes, IsAtEnd}
-use Rattle.stream.specs.Lines.{lines_of, lines_after}
-use Rattle.stream.specs.Running.{Fed, Feeding, Finished}
-use Rattle.piping.specs.Pumping.{Pumped}
+use Rattle.std.proofs.Common.{◌≡◌, ℕ, ◌<◌, ◌≤◌, Bool, true, false, List, [], ◌++◌, length, drop, Some, None, Option, IfSome, sym, refl, ap, ◌∙◌, subst, append_assoc, length-append, arith}
+use Rattle.std.proofs.lemmas.List.{drop-append-le}
+use Rattle.std.specs.Io.{StartsWith}
+use Rattle.std.specs.Io.BufRead.{DropsConsumable}
+use Rattle.std.specs.Io.KnownBytes.{Appends, Keeps}
+use Rattle.std.proofs.KnownBytes.{starts_with_rest}
+use Rattle.stream.specs.Lines.{lines_after, lines_of}
+use Rattle.stream.specs.Running.{Fed, Finished}
+use Rattle.piping.specs.Pumping.{PieceFed, Pumped}
 
 -- known bytes that grew are known
 appended : (ys : List ℕ) (new : Option (List ℕ)) (bs : List ℕ) → Appends (Some ys) new bs → new ≡ Some (ys ++ bs)
 appended ys None bs h = absurd h
 appended ys (Some zs) bs h = ap Some h
 
--- known bytes of which some were read begin with those
-consumed : (xs : List ℕ) (new : Option (List ℕ)) (bs : List ℕ) → Consumes (Some xs) new bs →
-    (zs : List ℕ) × (new ≡ Some zs) × (xs ≡ bs ++ zs)
-consumed xs None bs h = absurd h
-consumed xs (Some zs) bs h = (zs, refl, h)
-
-ended : (zs : List ℕ) (new : Option (List ℕ)) → new ≡ Some zs → IsAtEnd new → zs ≡ []
-ended zs new e h = subst IsAtEnd e h
+-- known bytes that were kept are the same
+kept : (xs : List ℕ) (new : Option (List ℕ)) → Keeps (Some xs) new → new ≡ Some xs
+kept xs None h = absurd h
+kept xs (Some ys) h = ap Some h
 
 true_false : true ≡ false → ⊥
 true_false e = cc
 
--- a piece in which nothing waits is empty
-pub none_waits : (more : Bool) (waits : List ℕ) → more ≡ false → (IsTrue more ↔ (0 < length waits)) → waits ≡ []
-none_waits more [] e h = refl
-none_waits more (x ∷ xs) e h = absurd (true_false (sym (h.1 (omega arith)) ∙ e))
+-- a part of what was shown is gone
+shown_taken : (xs piece : List ℕ) (now new : Option (List ℕ)) (limit : Option ℕ) (used : ℕ) → used ≤ length piece →
+    StartsWith xs piece → now ≡ Some xs → IfSome limit (λ n. length piece ≤ n) → DropsConsumable now new limit used →
+    new ≡ Some (drop used piece ++ drop (length piece) xs)
+shown_taken xs piece now new limit used within front is fits drops =
+    let gone : new ≡ Some (drop used xs) = subst (λ o. DropsConsumable o new limit used) is drops (room limit fits) in
+    gone ∙ ap Some (ap (drop used) (starts_with_rest xs piece front) ∙ drop-append-le used piece (drop (length piece) xs) within)
+  where
+    room : (o : Option ℕ) → IfSome o (λ n. length piece ≤ n) → IfSome o (λ n. used ≤ n)
+    room None h = tt
+    room (Some n) h = omega arith
 
 module _ {R : Type 0} (rest : R → List (List ℕ) → List ℕ) (sound : R → Type 0) (paused : R → Bool) where
-  -- The run goes on: with what was written and printed so far, the rest is what it was.
-  pub record Going (before now : R) (held held' waits waits' printed printed' left out : List ℕ) (left' out' : Option (List ℕ)) : Type 0 where
+  -- A piece was shown, and the run was fed with it ..
+  pub fed : {before after : R} {held held' printed printed' : List ℕ} {left left' : Option (List ℕ)} (now : Option (List ℕ)) (limit : Option ℕ)
+      (piece : List ℕ) (used : ℕ) → 0 < length piece → IfSome left (λ xs. StartsWith xs piece) → Keeps left now →
+      IfSome left (λ _. IfSome limit (λ n. length piece ≤ n)) → Fed rest sound paused before after held held' piece printed printed' used →
+      DropsConsumable now left' limit used →
+      PieceFed rest sound paused before after held held' printed printed' left left' true
+  fed {before = before} {after = after} {held = held} {held' = held'} {printed = printed} {printed' = printed'} {left' = left'} now limit piece used
+      some front keeps fits feeds drops s p xs l =
+      let f = feeds s p in
+      let starts : StartsWith xs piece = subst (λ o. IfSome o (λ x. StartsWith x piece)) l front in
+      let more = drop (length piece) xs in
+      let whole = starts_with_rest xs piece starts in
+      record {
+        remains = drop used piece ++ more;
+        leaves = shown_taken xs piece now left' limit used f.within starts (kept xs now (subst (λ o. Keeps o now) l keeps))
+            (subst (λ o. IfSome o (λ _. IfSome limit (λ n. length piece ≤ n))) l fits) drops;
+        stays = f.stays;
+        prints = f.prints more ∙ ap (λ b. printed ++ rest before (lines_after held b)) (sym whole);
+        none_held = f.none;
+        some = λ _. omega (arith, ap length whole, length-append piece more);
+        over = λ e. absurd (true_false e);
+        going = λ e. absurd (true_false e);
+      }
+
+  -- .. or there was none.
+  pub none_left : {before : R} {held printed : List ℕ} {left : Option (List ℕ)} (now : Option (List ℕ)) (piece : List ℕ) → length piece ≡ 0 →
+      IfSome left (λ xs. length piece ≡ 0 → xs ≡ []) → Keeps left now →
+      PieceFed rest sound paused before before held held printed printed left now false
+  none_left now piece none end keeps s p xs l = record {
+    remains = xs;
+    leaves = kept xs now (subst (λ o. Keeps o now) l keeps);
+    stays = s;
+    prints = refl;
+    none_held = λ e. absurd (true_false (sym e ∙ p));
+    some = λ e. absurd (true_false (sym e));
+    over = λ _. subst (λ o. IfSome o (λ x. length piece ≡ 0 → x ≡ [])) l end none;
+    going = λ _. p;
+  }
+
+  -- With what was written so far, the rest is what it was.
+  pub record Going (before now : R) (held left out : List ℕ) (left' out' : Option (List ℕ)) : Type 0 where
     pub remains : List ℕ
     pub leaves : left' ≡ Some remains
     pub written : List ℕ
     pub holds : out' ≡ Some written
     pub stays : sound now
-    pub going : paused now ≡ false
-    pub prints : written ++ (printed' ++ rest now (lines_after held' (waits' ++ remains))) ≡ out ++ (printed ++ rest before (lines_after held (waits ++ left)))
+    pub none_held : paused now ≡ true → held ≡ []
+    pub prints : written ++ rest now (lines_after held remains) ≡ out ++ rest before (lines_of left)
 
-  pub record Goes (before now : R) (held held' waits waits' printed printed' : List ℕ) (left left' out out' : Option (List ℕ)) : Type 0 where
+  pub record Goes (before now : R) (held : List ℕ) (left left' out out' : Option (List ℕ)) : Type 0 where
     pub goes : sound before → paused before ≡ false → (xs ys : List ℕ) → left ≡ Some xs → out ≡ Some ys →
-        Going before now held held' waits waits' printed printed' xs ys left' out'
+        Going before now held xs ys left' out'
 
-  pub begins : (before : R) (held waits printed : List ℕ) (left out : Option (List ℕ)) →
-      Goes before before held held waits waits printed printed left left out out
-  begins before held waits printed left out = record {
-    goes = λ s p xs ys l o. record { remains = xs; leaves = l; written = ys; holds = o; stays = s; going = p; prints = refl };
+  -- a piece more was fed, and what it brought was written
+  pub turns : {before now after : R} {held held' printed printed' : List ℕ} {left left' left'' out out' : Option (List ℕ)} (out'' : Option (List ℕ)) (more : Bool) →
+      Goes before now held left left' out out' → paused now ≡ false → printed ≡ [] →
+      PieceFed rest sound paused now after held held' printed printed' left' left'' more → Appends out' out'' printed' →
+      Goes before after held' left left'' out out''
+  turns {now = now} {after = after} {held = held} {held' = held'} {printed' = printed'} {out' = out'} out'' more so_far still none feeds wrote = record {
+    goes = λ s p xs ys l o.
+        let w = so_far.goes s p xs ys l o in
+        let f = feeds w.stays still w.remains w.leaves in
+        record {
+          remains = f.remains;
+          leaves = f.leaves;
+          written = w.written ++ printed';
+          holds = appended w.written out'' printed' (subst (λ x. Appends x out'' printed') w.holds wrote);
+          stays = f.stays;
+          none_held = f.none_held;
+          prints = append_assoc w.written printed' _
+              ∙ (ap (λ x. w.written ++ x) (f.prints ∙ ap (λ x. x ++ rest now (lines_after held w.remains)) none) ∙ w.prints);
+        };
   }
 
-  -- A turn: the lines of what waited are taken, which brings `more`, and that is written.
-  module _ {before now after : R} {held held' held'' waits waits' printed printed' : List ℕ} {left left' out out' : Option (List ℕ)}
-      (out'' : Option (List ℕ)) (more bytes : List ℕ) (used : ℕ) (so_far : Goes before now held held' waits waits' printed printed' left left' out out')
-      (all_waits : bytes ≡ waits') (feeds : Fed rest sound paused now after held' held'' bytes printed' more used) (wrote : Appends out' out'' more)
-    where
-      fed : Fed rest sound paused now after held' held'' waits' printed' more used
-      fed = subst (λ (b : List ℕ). Fed rest sound paused now after held' held'' b printed' more used) all_waits feeds
-
-      module _ (s : sound before) (p : paused before ≡ false) (xs ys : List ℕ) (l : left ≡ Some xs) (o : out ≡ Some ys) where
-        abbrev was : Going before now held held' waits waits' printed printed' xs ys left' out'
-        was = so_far.goes s p xs ys l o
-
-        abbrev gave : Feeding rest sound paused now after held' held'' waits' printed' more used
-        gave = fed was.stays was.going
-
-        holds_now : out'' ≡ Some (was.written ++ more)
-        holds_now = appended was.written out'' more (subst (λ x. Appends x out'' more) was.holds wrote)
-
-        prints_now : (was.written ++ more) ++ rest after (lines_after held'' (drop used waits' ++ was.remains))
-            ≡ ys ++ (printed ++ rest before (lines_after held (waits ++ xs)))
-        prints_now =
-            append_assoc was.written more _ ∙ (ap (λ x. was.written ++ x) (gave.prints was.remains) ∙ was.prints)
-
-      -- the run is paused
-      pub stops : {waits'' printed'' : List ℕ} → paused after ≡ true → waits'' ≡ drop used waits' → printed'' ≡ [] →
-          Pumped rest sound paused before after held held'' waits waits'' printed printed'' left left' out out''
-      stops stop taken none s p xs ys l o =
-          let w = was s p xs ys l o in
-          let g = gave s p xs ys l o in
-          record {
-            remains = w.remains;
-            leaves = w.leaves;
-            written = w.written ++ more;
-            holds = holds_now s p xs ys l o;
-            stays = g.stays;
-            prints = ap₂ (λ h b. (w.written ++ more) ++ rest after (lines_after h (b ++ w.remains))) (sym (g.none stop)) taken
-                ∙ prints_now s p xs ys l o;
-            all = λ going. absurd (true_false (sym stop ∙ going));
-            none_held = g.none stop;
-            none_printed = none;
-          }
-
-      -- it goes on, with the piece that was read next
-      pub goes_on : {waits'' printed'' : List ℕ} {left'' : Option (List ℕ)} → paused after ≡ false → printed'' ≡ [] →
-          Consumes left' left'' waits'' →
-          Goes before after held held'' waits waits'' printed printed'' left left'' out out''
-      goes_on {waits'' = waits''} {printed'' = printed''} {left'' = left''} going none took = record {
-        goes = λ s p xs ys l o.
-            let w = was s p xs ys l o in
-            let g = gave s p xs ys l o in
-            let c = consumed w.remains left'' waits'' (subst (λ x. Consumes x left'' waits'') w.leaves took) in
-            let empty : drop used waits' ≡ [] = ap (λ n. drop n waits') (g.all going) ∙ drop-length waits' in
-            let same : printed'' ++ rest after (lines_after held'' (waits'' ++ c.0)) ≡ rest after (lines_after held'' (drop used waits' ++ w.remains)) =
-            ap₂ (λ a b. a ++ rest after (lines_after held'' b)) none (sym (ap (λ e. e ++ w.remains) empty ∙ c.2)) in
-            record {
-              remains = c.0;
-              leaves = c.1;
-              written = w.written ++ more;
-              holds = holds_now s p xs ys l o;
-              stays = g.stays;
-              going = going;
-              prints = ap (λ x. (w.written ++ more) ++ x) same ∙ prints_now s p xs ys l o;
-            };
-      }
-
-  -- Nothing was left to read: what is held was the last line.
-  pub ends : {before now after : R} {held held' held'' waits waits' printed printed' printed'' : List ℕ}
-      {left left' out out' : Option (List ℕ)} (out'' : Option (List ℕ)) (more : List ℕ) →
-      Goes before now held held' waits waits' printed printed' left left' out out' →
-      waits' ≡ [] → IsAtEnd left' → Finished rest sound paused now after held' held'' printed' more → Appends out' out'' more → printed'' ≡ [] →
-      Pumped rest sound paused before after held held'' waits waits' printed printed'' left left' out out''
-  ends {now = now} {after = after} {held' = held'} {waits' = waits'} {printed' = printed'} {left' = left'} out'' more so_far empty end finished wrote none
-      s p xs ys l o =
+  -- the run is paused
+  pub stops : {before now : R} {held : List ℕ} {left left' out out' : Option (List ℕ)} → Goes before now held left left' out out' →
+      paused now ≡ true → Pumped rest sound paused before now left left' out out'
+  stops {now = now} so_far stop s p xs ys l o =
       let w = so_far.goes s p xs ys l o in
-      let f = finished w.stays w.going in
-      let over : w.remains ≡ [] = ended w.remains left' w.leaves end in
-      let nothing : waits' ++ w.remains ≡ [] = ap₂ (λ a b. a ++ b) empty over in
       record {
         remains = w.remains;
         leaves = w.leaves;
-        written = w.written ++ more;
-        holds = appended w.written out'' more (subst (λ x. Appends x out'' more) w.holds wrote);
-        stays = f.stays;
+        written = w.written;
+        holds = w.holds;
+        stays = w.stays;
+        prints = ap (λ h. w.written ++ rest now (lines_after h w.remains)) (sym (w.none_held stop)) ∙ w.prints;
+        all = λ going. absurd (true_false (sym stop ∙ going));
+      }
+
+  -- nothing was left to read: what is held was the last line
+  pub ends : {before now now' after : R} {held held' held'' printed printed' printed'' : List ℕ} {left left' left'' out out' : Option (List ℕ)}
+      (out'' : Option (List ℕ)) →
+      Goes before now held left left' out out' → paused now ≡ false → printed ≡ [] →
+      PieceFed rest sound paused now now' held held' printed printed' left' left'' false →
+      Finished rest sound paused now' after held' held'' printed' printed'' → Appends out' out'' printed'' →
+      Pumped rest sound paused before after left left'' out out''
+  ends {now = now} {now' = now'} {after = after} {held = held} {held' = held'} {printed' = printed'} {printed'' = printed''} out'' so_far still none feeds
+      finished wrote s p xs ys l o =
+      let w = so_far.goes s p xs ys l o in
+      let f = feeds w.stays still w.remains w.leaves in
+      let e = finished f.stays (f.going refl) in
+      record {
+        remains = f.remains;
+        leaves = f.leaves;
+        written = w.written ++ printed'';
+        holds = appended w.written out'' printed'' (subst (λ x. Appends x out'' printed'') w.holds wrote);
+        stays = e.stays;
         prints =
-            ap (λ b. (w.written ++ more) ++ rest after (lines_of b)) nothing
-            ∙ (append_assoc w.written more _ ∙ (ap (λ x. w.written ++ x)
-            (f.prints ∙ ap (λ b. printed' ++ rest now (lines_after held' b)) (sym nothing)) ∙ w.prints));
-        all = λ going. nothing;
-        none_held = f.none;
-        none_printed = none;
+            ap (λ b. (w.written ++ printed'') ++ rest after (lines_of b)) (f.over refl)
+            ∙ (append_assoc w.written printed'' _ ∙ (ap (λ x. w.written ++ x)
+            (e.prints ∙ (ap (λ b. printed' ++ rest now' (lines_after held' b)) (sym (f.over refl))
+            ∙ (f.prints ∙ ap (λ x. x ++ rest now (lines_after held w.remains)) none))) ∙ w.prints));
+        all = λ _. f.over refl;
       }

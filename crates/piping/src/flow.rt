@@ -1,13 +1,22 @@
-ghost use Rattle.std.specs.Prelude.{◌≡◌, [], OnOk, OnErr};
+ghost use Rattle.std.specs.Prelude.{◌≡◌, ◌<◌, [], IfOk, OnOk, OnErr};
+ghost use Rattle.std.specs.Io.Buffered.{reader_buffer, reader_capacity, reader_inner};
 ghost use Rattle.std.specs.Io.KnownBytes.{Appends};
-ghost use Rattle.piping.specs.Pieces.{waiting};
-ghost use Rattle.piping.specs.Pumping.{Pumped};
+ghost use Rattle.piping.specs.Pumping.{PieceFed, Pumped};
 
-use crate::pieces::Piece;
 use anyhow::anyhow;
+use std::alloc::Global;
 use std::io;
-use std::io::{Read, Write};
+use std::io::{BufRead, BufReader, Read, Write};
 use stream::{LineFeed, LineRun};
+
+// Reads an input in pieces of up to 64 KB.
+pub fn in_pieces<I: Read + Drop>(heap: Global, input: I) -> io::Result<BufReader<I>>
+    ensures all { IfOk result (λ r. reader_inner r ≡ input) }
+    ensures none_waits { IfOk result (λ r. reader_buffer r ≡ []) }
+    ensures room { IfOk result (λ r. 0 < reader_capacity r) }
+{
+    BufReader::with_capacity(heap, 65_536, input)
+}
 
 // Writes out what was printed. After a failure it is still there, and some of it may have been written.
 pub fn write_out<O: Write>(output: &mut O, printed: &mut Vec<u8>) -> io::Result<()>
@@ -20,29 +29,45 @@ pub fn write_out<O: Write>(output: &mut O, printed: &mut Vec<u8>) -> io::Result<
     Ok(())
 }
 
-// Feeds the run with the input, until it is paused or the input has ended.
-pub fn pump<R: LineRun, I: Read, O: Write>(
-    input: &mut I,
-    piece: &mut Piece,
+// Feeds the run with the next piece of the input, and answers whether there was one: there is none at its end.
+fn feed_piece<R: LineRun, I: BufRead>(
     feed: &mut LineFeed,
     run: &mut R,
+    input: &mut I,
     printed: &mut Vec<u8>,
+) -> anyhow::Result<bool>
+    ensures { IfOk result (λ more. PieceFed R.rest R.sound R.paused run.old run.new feed.old.held.items feed.new.held.items printed.old.items printed.new.items (I.remaining input.old) (I.remaining input.new) more) }
+{
+    let piece = input.fill_buf()?;
+    if piece.is_empty() {
+        return Ok(false);
+    }
+    let used = feed.feed(run, piece, printed)?;
+    input.consume(used);
+    Ok(true)
+}
+
+// Feeds the run with the input, until it is paused or the input has ended.
+pub fn pump<R: LineRun, I: BufRead, O: Write>(
+    heap: Global,
+    run: &mut R,
+    input: &mut I,
     output: &mut O,
 ) -> anyhow::Result<()>
-    ensures { OnOk result (Pumped R.rest R.sound R.paused run.old run.new feed.old.held.items feed.new.held.items (waiting piece.old) (waiting piece.new) printed.old.items printed.new.items (I.remaining input.old) (I.remaining input.new) (O.contents output.old) (O.contents output.new)) }
+    ensures { OnOk result (Pumped R.rest R.sound R.paused run.old run.new (I.remaining input.old) (I.remaining input.new) (O.contents output.old) (O.contents output.new)) }
 {
+    let mut feed = LineFeed::new(heap);
+    let mut printed = Vec::new(heap);
     for _turn in 0..u64::MAX {
-        let used = feed.feed(run, piece.rest(), printed)?;
-        piece.take(used);
-        write_out(output, printed)?;
         if run.is_paused() {
             return Ok(());
         }
-        if !piece.fill(input)? {
-            feed.finish(run, printed)?;
-            write_out(output, printed)?;
+        if !feed_piece(&mut feed, run, input, &mut printed)? {
+            feed.finish(run, &mut printed)?;
+            write_out(output, &mut printed)?;
             return Ok(());
         }
+        write_out(output, &mut printed)?;
     }
     Err(anyhow!("the input does not end"))
 }

@@ -2,7 +2,7 @@
 #![tactic(auto)]
 
 mod flow;
-mod pieces;
+mod program;
 
-pub use flow::{pump, write_out};
-pub use pieces::Piece;
+pub use flow::{in_pieces, pump, write_out};
+pub use program::run_filter;

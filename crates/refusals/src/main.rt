@@ -67,43 +67,22 @@ const HEARD: [(&str, &str); 6] = [
     ("a packet without parity", "HD   1   1   1\nA       0 7\n"),
 ];
 
-// The last line of a text.
-fn last_line(text: &[u8]) -> &[u8] {
-    let mut from = 0;
-    let mut to = text.len();
-    for (i, byte) in text.iter().enumerate() {
-        if *byte == b'\n' {
-            if i < text.len().saturating_sub(1) {
-                from = i.saturating_add(1);
-            } else {
-                to = i;
-            }
-        }
-    }
-    match text.get(from..to) {
-        Some(line) => line,
-        None => &[],
-    }
-}
-
-fn show(rt: &(impl Print + AllocGlobal), what: &str, text: &[u8]) -> anyhow::Result<()> {
-    for byte in last_line(text) {
-        print!(rt; "{}", char::from(*byte))?;
-    }
-    println!(rt; "   {what}")?;
+// Shows the last line of a text.
+fn show(rt: &impl Print, what: &str, text: &[u8]) -> anyhow::Result<()> {
+    let line = str::from_utf8(text)?.lines().last().unwrap_or("");
+    println!(rt; "{line}   {what}")?;
     Ok(())
 }
 
 // A list of so many rows, on a sheet with T = 1.
 fn long_list(heap: Global, rows: u32) -> anyhow::Result<Vec<u8>> {
+    let sheet = Sheet::new(1, 1, 1)?;
     let mut text = Vec::new(heap);
     text.extend_from_slice(b"HD   1   1   1\n")?;
-    if let Ok(sheet) = Sheet::new(1, 1, 1) {
-        for number in 0..rows {
-            let mut line = [0; 12];
-            let _ = write_row(&mut line, sheet, number, &[Digit::D7]);
-            text.extend_from_slice(&line)?;
-        }
+    for number in 0..rows {
+        let mut line = [0; 12];
+        let _ = write_row(&mut line, sheet, number, &[Digit::D7]);
+        text.extend_from_slice(&line)?;
     }
     Ok(text)
 }
@@ -121,30 +100,26 @@ fn lent(
     let mut window = filled(heap, Digit::D0, window)?;
     let row = filled(heap, Digit::D0, row)?;
     let packet = filled(heap, Digit::D0, packet)?;
-    if let Ok(sheet) = Sheet::new(3, 4, 2) {
-        let header = Header {
-            kind: SymbolKind::Digits,
-            sheet,
-        };
-        let mut run = SendRun::new(header, window.as_mut_slice(), row, packet);
-        run.take_line(b"R       0 1 2 3 4", &mut printed)?;
-    }
+    let header = Header {
+        kind: SymbolKind::Digits,
+        sheet: Sheet::new(3, 4, 2)?,
+    };
+    let mut run = SendRun::new(header, window.as_mut_slice(), row, packet);
+    run.take_line(b"R       0 1 2 3 4", &mut printed)?;
     show(rt, what, printed.as_slice())
 }
 
 // What a writer answers, with its number.
 fn written(
-    rt: &(impl Print + AllocGlobal),
+    rt: &impl Print,
     what: &str,
     number: u32,
     row: &[Digit],
     place: &mut [u8],
 ) -> anyhow::Result<()> {
-    if let Ok(sheet) = Sheet::new(1, 1, 1) {
-        match write_row(place, sheet, number, row) {
-            Ok(()) => println!(rt; "written              {what}")?,
-            Err(refusal) => println!(rt; "refused with {:>2}      {what}", refusal.number())?,
-        }
+    match write_row(place, Sheet::new(1, 1, 1)?, number, row) {
+        Ok(()) => println!(rt; "written              {what}")?,
+        Err(refusal) => println!(rt; "refused with {:>2}      {what}", refusal.number())?,
     }
     Ok(())
 }
@@ -166,10 +141,14 @@ fn run(rt: &(impl Print + AllocGlobal)) -> anyhow::Result<()> {
         show(rt, what, mend_text(heap, text.as_bytes())?.as_slice())?;
     }
     println!(rt; "a run that is lent too little:")?;
-    lent(rt, "what the sheet needs", 24, 4, 6)?;
-    lent(rt, "a window of 23 symbols", 23, 4, 6)?;
-    lent(rt, "a place for 3 symbols of a row", 24, 3, 6)?;
-    lent(rt, "a place for 7 symbols of a packet", 24, 4, 7)?;
+    for (what, window, row, packet) in [
+        ("what the sheet needs", 24, 4, 6),
+        ("a window of 23 symbols", 23, 4, 6),
+        ("a place for 3 symbols of a row", 24, 3, 6),
+        ("a place for 7 symbols of a packet", 24, 4, 7),
+    ] {
+        lent(rt, what, window, row, packet)?;
+    }
     println!(rt; "writing a row:")?;
     written(rt, "row 999999", 999_999, &[Digit::D7], &mut [0; 12])?;
     written(rt, "row 1000000", 1_000_000, &[Digit::D7], &mut [0; 12])?;

@@ -2,33 +2,17 @@
 ghost use Rattle.std.specs.Prelude.{◌≡◌, ◌<◌, ◌++◌, IfOk, OnOk};
 ghost use Rattle.lines.specs.Lines.{ended, missed_line};
 ghost use Rattle.relay.specs.Relaying.{hall as turning, Relays};
-ghost use Rattle.relay.specs.Halls.{lists as has, listed, passed};
+ghost use Rattle.relay.specs.Halls.{listed, passed};
 
 use lines::write_missed;
 use std::alloc::{AllocError, Global};
-use stream::line_len;
-
-// Whether the list has this slot.
-fn lists(missed: &[u32], slot: u32) -> bool
-    ensures { result ≡ has slot missed.now }
-{
-    for other in missed {
-        if *other == slot {
-            return true;
-        }
-    }
-    false
-}
+use stream::split_line;
 
 // Whether this slot is missed.
 fn is_missed(missed: &[u32], slot: usize) -> bool
     ensures { result ≡ listed missed.now slot }
 {
-    if slot < 1_000_000 {
-        lists(missed, slot as u32)
-    } else {
-        false
-    }
+    slot < 1_000_000 && missed.contains(&(slot as u32))
 }
 
 // Writes a line behind what `out` holds.
@@ -36,7 +20,7 @@ fn put_line(out: &mut Vec<u8>, line: &[u8]) -> Result<(), AllocError>
     ensures { OnOk result (out.new.items ≡ out.old.items ++ ended line.now) }
 {
     out.extend_from_slice(line)?;
-    out.extend_from_slice(&[b'\n'])?;
+    out.push(b'\n')?;
     Ok(())
 }
 
@@ -59,13 +43,9 @@ fn pass_line(
 ) -> Result<(), AllocError>
     ensures { OnOk result (out.new.items ≡ out.old.items ++ ended (passed (listed missed.now) before line.now)) }
 {
-    if before == 0 {
-        return put_line(out, line);
-    }
-    if is_missed(missed, before - 1) {
-        put_missed(out, (before - 1) as u32)
-    } else {
-        put_line(out, line)
+    match before.checked_sub(1) {
+        Some(slot) if is_missed(missed, slot) => put_missed(out, slot as u32),
+        _ => put_line(out, line),
     }
 }
 
@@ -75,21 +55,15 @@ pub fn hall(heap: Global, text: &[u8], missed: &[u32]) -> Result<Vec<u8>, AllocE
     ensures relays { Relays }
 {
     let mut out = Vec::new(heap);
-    let mut used = 0;
-    let mut lines = 0;
-    while used < text.len() {
-        let rest = &text[used..text.len()];
-        match line_len(rest) {
-            Some(len) => {
-                pass_line(&mut out, missed, lines, &rest[0..len])?;
-                used += len + 1;
-                lines += 1;
-            }
-            None => {
-                pass_line(&mut out, missed, lines, rest)?;
-                return Ok(out);
-            }
-        }
+    let mut rest = text;
+    let mut before = 0;
+    while let Some((line, more)) = split_line(rest) {
+        pass_line(&mut out, missed, before, line)?;
+        rest = more;
+        before += 1;
+    }
+    if !rest.is_empty() {
+        pass_line(&mut out, missed, before, rest)?;
     }
     Ok(out)
 }

@@ -2,8 +2,6 @@
 ghost use Rattle.relay.specs.Relaying.{Relays};
 
 // Its contract is the theorem.
-pub fn relays() -> u8
+pub fn relays()
     ensures { Relays }
-{
-    0
-}
+{}

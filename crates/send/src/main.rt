@@ -1,18 +1,16 @@
 // `send`: reads a list of rows as text, and prints its packets as text.
 #![tactic(auto)]
 
-use anyhow::anyhow;
 use kinds::{Byte, Digit, Printed, Symbol};
 use lines::{Header, SymbolKind};
-use piping::{Piece, pump, write_out};
+use piping::{in_pieces, pump, run_filter, write_out};
 use runs::filled;
 use send_filter::SendOpening;
 use sending::SendRun;
 use std::alloc::Global;
-use std::io::{Read, Write};
+use std::io::{BufRead, Read, Write};
 use std::process::ExitCode;
-use std::{env, fs};
-use stream::{LineFeed, LineRun};
+use stream::LineRun;
 use transmit::window_len;
 
 const USAGE: &str = "usage: send [FILE]
@@ -26,77 +24,53 @@ prints  HD   3   4   2        the header again
         X       3   6   2     fault: line, refusal, position; then the program ends with status 1
 ";
 
-// Sends the rows after a header; answers whether the run ended without a fault.
-fn send_rows<P: Printed, I: Read, O: Write>(
+// Sends the rows after a header; the status tells whether the run ended without a fault.
+fn send_rows<P: Printed, I: BufRead, O: Write>(
     heap: Global,
     header: Header,
     input: &mut I,
-    piece: &mut Piece,
     output: &mut O,
-) -> anyhow::Result<bool> {
+) -> anyhow::Result<ExitCode> {
     let sheet = header.sheet;
     let mut window = filled(heap, P::zero(), window_len(sheet))?;
     let row = filled(heap, P::zero(), sheet.row as usize)?;
     let packet = filled(heap, P::zero(), sheet.packet_len())?;
     let mut run = SendRun::new(header, window.as_mut_slice(), row, packet);
-    let mut feed = LineFeed::new(heap);
+    pump(heap, &mut run, input, output)?;
     let mut printed = Vec::new(heap);
-    pump(input, piece, &mut feed, &mut run, &mut printed, output)?;
     let fault = run.end(&mut printed)?;
     write_out(output, &mut printed)?;
-    Ok(fault.is_none())
+    match fault {
+        None => Ok(ExitCode::SUCCESS),
+        Some(_) => Ok(ExitCode::FAILURE),
+    }
 }
 
-// Sends a whole list; answers whether the run ended without a fault.
-fn send<I: Read, O: Write>(heap: Global, input: &mut I, output: &mut O) -> anyhow::Result<bool> {
-    let mut piece = Piece::new(heap)?;
-    let mut feed = LineFeed::new(heap);
-    let mut printed = Vec::new(heap);
+// Sends a whole list.
+fn send<I: Read + Drop, O: Write>(
+    heap: Global,
+    input: I,
+    output: &mut O,
+) -> anyhow::Result<ExitCode> {
+    let mut input = in_pieces(heap, input)?;
     let mut opening = SendOpening::new();
-    pump(
-        input,
-        &mut piece,
-        &mut feed,
-        &mut opening,
-        &mut printed,
-        output,
-    )?;
+    pump(heap, &mut opening, &mut input, output)?;
     if !opening.is_paused() {
+        let mut printed = Vec::new(heap);
         opening.end(&mut printed)?;
         write_out(output, &mut printed)?;
     }
-    match opening.header() {
-        None => Ok(false),
-        Some(header) => match header.kind {
-            SymbolKind::Bytes => send_rows::<Byte, I, O>(heap, header, input, &mut piece, output),
-            SymbolKind::Digits => send_rows::<Digit, I, O>(heap, header, input, &mut piece, output),
-        },
-    }
-}
-
-fn run(rt: &HostRuntime) -> anyhow::Result<bool> {
-    let heap = rt.alloc();
-    let mut arguments = env::args(rt)?.skip(1);
-    match arguments.next() {
-        None => send(heap, &mut rt.stdin(), &mut rt.stdout()),
-        Some(name) => {
-            if arguments.next().is_some() {
-                return Err(anyhow!("send: more than one argument; try --help"));
-            }
-            if name.as_str() == "--help" {
-                print!(rt; "{USAGE}")?;
-                return Ok(true);
-            }
-            let mut file = fs::open(rt, name.as_str())?;
-            send(heap, &mut file, &mut rt.stdout())
-        }
+    let Some(header) = opening.header() else {
+        return Ok(ExitCode::FAILURE);
+    };
+    match header.kind {
+        SymbolKind::Bytes => send_rows::<Byte, _, _>(heap, header, &mut input, output),
+        SymbolKind::Digits => send_rows::<Digit, _, _>(heap, header, &mut input, output),
     }
 }
 
 fn main(rt: HostRuntime) -> anyhow::Result<ExitCode> {
-    if run(&rt)? {
-        Ok(ExitCode::SUCCESS)
-    } else {
-        Ok(ExitCode::FAILURE)
-    }
+    run_filter(&rt, "send", USAGE, |input| {
+        send(rt.alloc(), input, &mut rt.stdout())
+    })
 }

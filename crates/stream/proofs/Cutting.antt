@@ -1,34 +1,34 @@
 -- Where the lines of a text are cut. Assumes nothing.
-use Rattle.std.proofs.Common.{◌≡◌, ℕ, suc, ◌+◌, ◌<◌, ◌≤◌, false, eqb, List, [], ◌∷◌, ◌++◌, length, get_or, take, drop, Some, None, Option, sym, refl, ap, ◌∙◌, subst, inl, inr, add-zero, add-one, arith}
+use Rattle.std.proofs.Common.{◌≡◌, ℕ, zero, suc, ◌+◌, ◌<◌, false, eqb, List, [], ◌∷◌, ◌++◌, length, get_or, take, drop, Some, None, Option, true, sym, refl, ap, ◌∙◌, subst, inl, inr, add-one, arith}
 use Rattle.std.specs.Option.{option_map}
-use Rattle.std.proofs.lemmas.List.{append-nil, append_assoc, length-append, at_drop_more, at_drop_all}
-use Rattle.std.proofs.lemmas.Bool.{cases_Bool, cond-true, cond-false, eq-eqb, ne_eqb, eqb-true}
+use Rattle.std.proofs.lemmas.List.{append-nil, append_assoc, length-append}
+use Rattle.std.proofs.lemmas.Bool.{cases_Bool, cond-true, cond-false, eqb-true}
+use Rattle.memchr.specs.Find.{IsFirstByte, is_byte}
 use Rattle.stream.specs.Lines.{lines_after, line_length, Unended}
 
--- counting on from i
-abbrev pub past : ℕ → Option ℕ → Option ℕ
-past i o = option_map (λ n. n + i) o
+-- No byte 10 stands in it ..
+none_is : (xs : List ℕ) → ((k : ℕ) → k < length xs → eqb (get_or xs k 0) 10 ≡ true → ⊥) → line_length xs ≡ None
+none_is [] none = refl
+none_is (c ∷ cs) none = elim (cases_Bool (eqb c 10)) [
+  | inl e ↦ absurd (none 0 (omega arith) e)
+  | inr e ↦ cond-false _ _ _ e ∙ ap (option_map (λ n. n + 1)) (none_is cs (λ k l. none (suc k) (omega arith)))
+]
 
-pub past_none : (o : Option ℕ) → past 0 o ≡ o
-past_none None = refl
-past_none (Some n) = ap Some (add-zero n)
+-- .. or the first stands at n.
+some_is : (xs : List ℕ) (n : ℕ) → n < length xs → ((k : ℕ) → k < n → eqb (get_or xs k 0) 10 ≡ true → ⊥) → eqb (get_or xs n 0) 10 ≡ true →
+    line_length xs ≡ Some n
+some_is [] n l before here = absurd (omega arith)
+some_is (c ∷ cs) zero l before here = cond-true _ _ _ here
+some_is (c ∷ cs) (suc n) l before here = elim (cases_Bool (eqb c 10)) [
+  | inl e ↦ absurd (before 0 (omega arith) e)
+  | inr e ↦
+      cond-false _ _ _ e
+      ∙ (ap (option_map (λ m. m + 1)) (some_is cs n (omega arith) (λ k h. before (suc k) (omega arith)) here) ∙ ap Some (add-one n))
+]
 
-past_more : (i : ℕ) (o : Option ℕ) → past i (option_map (λ n. n + 1) o) ≡ past (i + 1) o
-past_more i None = refl
-past_more i (Some n) = ap Some (let e : n + 1 + i ≡ n + (i + 1) = omega arith in e)
-
-pub found : (xs : List ℕ) (i : ℕ) → i < length xs → get_or xs i 0 ≡ 10 → past i (line_length (drop i xs)) ≡ Some i
-found xs i l e =
-    ap (past i) (at_drop_more line_length xs i 0 l ∙ cond-true _ _ _ (eq-eqb (get_or xs i 0) 10 e))
-    ∙ ap Some (let z : 0 + i ≡ i = omega arith in z)
-
-pub passed : (xs : List ℕ) (i : ℕ) → i < length xs → (get_or xs i 0 ≡ 10 → ⊥) → past i (line_length (drop i xs)) ≡ past (i + 1) (line_length (drop (i + 1) xs))
-passed xs i l ne =
-    ap (past i) (at_drop_more line_length xs i 0 l ∙ cond-false _ _ _ (ne_eqb (get_or xs i 0) 10 ne))
-    ∙ past_more i (line_length (drop (i + 1) xs))
-
-pub none_left : (xs : List ℕ) (i : ℕ) → length xs ≤ i → past i (line_length (drop i xs)) ≡ None
-none_left xs i l = ap (past i) (at_drop_all line_length xs i l)
+pub first_is : (xs : List ℕ) (o : Option ℕ) → IsFirstByte (is_byte 10) xs o → o ≡ line_length xs
+first_is xs None h = sym (none_is xs (λ k l. h k (omega arith) l))
+first_is xs (Some n) h = sym (some_is xs n h.0.high (λ k l. h.0.before k (omega arith) l) h.1)
 
 some_none : (n : ℕ) → ◌≡◌ {A = Option ℕ} (Some n) None → ⊥
 some_none n e = let z : ◌≡◌ {A = ℕ} 0 1 = cc in omega arith

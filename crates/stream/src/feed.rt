@@ -1,21 +1,26 @@
 // A text that comes in pieces of any length, cut into lines at byte 10.
-ghost use Rattle.std.specs.Prelude.{◌≡◌, ◌≤◌, true, false, [], ◌∷◌, ◌++◌, length, IfOk, vec_len, OnOk};
+ghost use Rattle.std.specs.Prelude.{◌≡◌, ◌<◌, ◌≤◌, true, false, [], ◌∷◌, ◌++◌, length, IfOk, IfSome, MatchOption, vec_len, OnOk};
 ghost use Rattle.stream.specs.Lines.{line_length, Unended};
 ghost use Rattle.stream.specs.Running.{Took, Held, Fed, Finished};
 
 use crate::run::LineRun;
+use memchr::memchr;
 use std::alloc::{AllocError, Global};
 
 // How many bytes stand before the first byte 10, if there is one.
 pub fn line_len(bytes: &[u8]) -> Option<usize>
-    ensures { result ≡ line_length bytes.now }
+    ensures value { result ≡ line_length bytes.now }
+    ensures within { IfSome result (λ len. len < length bytes.now) }
 {
-    for (i, byte) in bytes.iter().enumerate() {
-        if *byte == b'\n' {
-            return Some(i);
-        }
-    }
-    None
+    memchr(b'\n', bytes)
+}
+
+// The first line, without the byte 10 that ends it, and what follows; none where no line ends.
+pub fn split_line(text: &[u8]) -> Option<(&[u8], &[u8])>
+    ensures { MatchOption result (Unended text.now) (λ parts. Unended parts.0.now × (text.now ≡ parts.0.now ++ (10 ∷ parts.1.now))) }
+{
+    let len = line_len(text)?;
+    Some((&text[..len], &text[len + 1..]))
 }
 
 // What has come of a line that has not ended yet.
@@ -79,21 +84,16 @@ impl LineFeed {
     ) -> Result<usize, AllocError>
         ensures { IfOk result (λ used. Fed R.LineRun.rest R.LineRun.sound R.LineRun.paused run.old run.new self.old.held.items self.new.held.items bytes.now out.old.items out.new.items used) }
     {
-        let mut used = 0;
+        let mut rest = bytes;
         while !run.is_paused() {
-            let rest = &bytes[used..bytes.len()];
-            match line_len(rest) {
-                Some(len) => {
-                    self.end_line(run, &rest[0..len], out)?;
-                    used += len + 1;
-                }
-                None => {
-                    self.hold(run, rest, out)?;
-                    return Ok(bytes.len());
-                }
-            }
+            let Some((line, more)) = split_line(rest) else {
+                self.hold(run, rest, out)?;
+                return Ok(bytes.len());
+            };
+            self.end_line(run, line, out)?;
+            rest = more;
         }
-        Ok(used)
+        Ok(bytes.len() - rest.len())
     }
 
     // The text has ended: hands on what is held of a last line.

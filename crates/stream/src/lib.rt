@@ -4,5 +4,5 @@
 mod feed;
 mod run;
 
-pub use feed::{LineFeed, line_len};
+pub use feed::{LineFeed, line_len, split_line};
 pub use run::LineRun;

@@ -5,7 +5,9 @@
 use code::{Mark, Sheet};
 use kinds::{Digit, Printed};
 use link::Ends;
-use receive::{Due, Receiver, Verdict};
+use receive::{Receiver, Verdict};
+use std::fmt;
+use std::fmt::{Display, Formatter};
 use transmit::{Sender, WindingSender};
 
 // The six rows of the list, one to a slot.
@@ -18,52 +20,55 @@ const ROWS: [[u32; 4]; 6] = [
     [0, 0, 0, 1],
 ];
 
-fn digits(numbers: [u32; 4]) -> [Digit; 4] {
-    [
-        Digit::of_rest(numbers[0]),
-        Digit::of_rest(numbers[1]),
-        Digit::of_rest(numbers[2]),
-        Digit::of_rest(numbers[3]),
-    ]
-}
+// Symbols one after the other.
+#[derive(Clone, Copy)]
+struct Symbols<'a>(&'a [Digit]);
 
-// A packet as it goes out: the row's symbols, and then the parity symbols.
-fn show_packet(rt: &impl Print, slot: u32, packet: &[Digit; 6]) -> anyhow::Result<()> {
-    print!(rt; "slot {slot:>2} ")?;
-    for (i, symbol) in packet.iter().enumerate() {
-        if i == 4 {
-            print!(rt; " |")?;
+impl Display for Symbols<'_> {
+    fn fmt<W: fmt::Write>(&self, f: &mut Formatter<W>) -> fmt::Result {
+        for symbol in self.0 {
+            write!(f, " {}", symbol.number())?;
         }
-        print!(rt; " {}", symbol.number())?;
+        Ok(())
     }
-    Ok(())
 }
 
-fn show_verdict(rt: &impl Print, verdict: Verdict) -> anyhow::Result<()> {
-    match verdict {
-        Verdict::Whole => println!(rt; "whole")?,
-        Verdict::Mended(count) => println!(rt; "mended: {count}")?,
-        Verdict::Lost {
-            mended,
-            lost,
-            first,
-        } => println!(rt; "lost: {lost}, mended: {mended}, first lost: {first}")?,
-    }
-    Ok(())
+// The symbols of a row with their marks.
+#[derive(Clone, Copy)]
+struct Marked<'a> {
+    row: &'a [Digit],
+    marks: &'a [Mark],
 }
 
-// The row that falls due with a slot: its symbols with their marks, and its verdict.
-fn show_due(rt: &impl Print, due: Due, row: &[Digit; 4], marks: &[Mark; 4]) -> anyhow::Result<()> {
-    print!(rt; "row {} ", due.row)?;
-    for (symbol, mark) in row.iter().zip(marks) {
-        match mark {
-            Mark::Arrived => print!(rt; "  {}", symbol.number())?,
-            Mark::Mended => print!(rt; " +{}", symbol.number())?,
-            Mark::Lost => print!(rt; "  ?")?,
+impl Display for Marked<'_> {
+    fn fmt<W: fmt::Write>(&self, f: &mut Formatter<W>) -> fmt::Result {
+        for (symbol, mark) in self.row.iter().zip(self.marks) {
+            match mark {
+                Mark::Arrived => write!(f, "  {}", symbol.number())?,
+                Mark::Mended => write!(f, " +{}", symbol.number())?,
+                Mark::Lost => f.write_str("  ?")?,
+            }
+        }
+        Ok(())
+    }
+}
+
+// What became of a row.
+#[derive(Clone, Copy)]
+struct Fate(Verdict);
+
+impl Display for Fate {
+    fn fmt<W: fmt::Write>(&self, f: &mut Formatter<W>) -> fmt::Result {
+        match self.0 {
+            Verdict::Whole => f.write_str("whole"),
+            Verdict::Mended(count) => write!(f, "mended: {count}"),
+            Verdict::Lost {
+                mended,
+                lost,
+                first,
+            } => write!(f, "lost: {lost}, mended: {mended}, first lost: {first}"),
         }
     }
-    print!(rt; "  ")?;
-    show_verdict(rt, due.verdict)
 }
 
 // One slot at the receiver: the packet arrives or is missed, and what falls due is shown.
@@ -76,7 +81,8 @@ fn hear(
 ) -> anyhow::Result<()> {
     let mut row = [Digit::D0; 4];
     let mut marks = [Mark::Arrived; 4];
-    show_packet(rt, slot, packet)?;
+    let (symbols, parity) = packet.split_at(4);
+    print!(rt; "slot {slot:>2} {} |{}", Symbols(symbols), Symbols(parity))?;
     let answer = if missed.contains(&slot) {
         print!(rt; "  missed   ")?;
         receiver.missed(&mut row, &mut marks)
@@ -85,7 +91,13 @@ fn hear(
         receiver.arrived(packet, &mut row, &mut marks)
     };
     match answer {
-        Ok(Some(due)) => show_due(rt, due, &row, &marks)?,
+        Ok(Some(due)) => {
+            let marked = Marked {
+                row: &row,
+                marks: &marks,
+            };
+            println!(rt; "row {} {marked}  {}", due.row, Fate(due.verdict))?
+        }
         Ok(None) => println!(rt; "nothing due")?,
         Err(refusal) => println!(rt; "refused: {}", refusal.number())?,
     }
@@ -99,10 +111,10 @@ fn send_rows(
     receiver: &mut Receiver<'_, Digit>,
     missed: &[u32],
 ) -> anyhow::Result<()> {
-    for i in 0..6u32 {
+    for (slot, row) in (0..).zip(ROWS) {
         let mut packet = [Digit::D0; 6];
-        match sender.put(&digits(ROWS[i as usize]), &mut packet) {
-            Ok(()) => hear(rt, receiver, i, &packet, missed)?,
+        match sender.put(&row.map(Digit::of_rest), &mut packet) {
+            Ok(()) => hear(rt, receiver, slot, &packet, missed)?,
             Err(refusal) => println!(rt; "refused: {}", refusal.number())?,
         }
     }
@@ -116,10 +128,10 @@ fn send_tail(
     receiver: &mut Receiver<'_, Digit>,
     missed: &[u32],
 ) -> anyhow::Result<()> {
-    for i in 6..12 {
+    for slot in 6..12 {
         let mut packet = [Digit::D0; 6];
         match winding.tail(&mut packet) {
-            Ok(()) => hear(rt, receiver, i, &packet, missed)?,
+            Ok(()) => hear(rt, receiver, slot, &packet, missed)?,
             Err(refusal) => println!(rt; "refused: {}", refusal.number())?,
         }
     }
@@ -130,11 +142,10 @@ fn send_tail(
 fn send_list(rt: &impl Print, sheet: Sheet, missed: &[u32]) -> anyhow::Result<()> {
     let mut near = [Digit::D0; 24];
     let mut far = [Digit::D0; 72];
-    let ends = Ends::new(sheet, &mut near, &mut far);
     let Ends {
         mut sender,
         mut receiver,
-    } = ends;
+    } = Ends::new(sheet, &mut near, &mut far);
     send_rows(rt, &mut sender, &mut receiver, missed)?;
     let mut winding = sender.wind_down();
     let heard = send_tail(rt, &mut winding, &mut receiver, missed);
@@ -192,13 +203,6 @@ fn tour(rt: &impl Print, sheet: Sheet) -> anyhow::Result<()> {
     windows(rt, sheet, &mut [Digit::D0; 23], &mut [Digit::D0; 71])
 }
 
-fn run(rt: &impl Print) -> anyhow::Result<()> {
-    match Sheet::new(3, 4, 2) {
-        Ok(sheet) => tour(rt, sheet),
-        Err(refusal) => Ok(println!(rt; "no such sheet: {}", refusal.number())?),
-    }
-}
-
 fn main(rt: HostRuntime) -> anyhow::Result<()> {
-    run(&rt)
+    tour(&rt, Sheet::new(3, 4, 2)?)
 }

@@ -1,10 +1,9 @@
-use Rattle.std.proofs.Common.{vec_items}
-use Rattle.piping.specs.Pieces.{waiting}
+use Rattle.std.proofs.Common.{◌≡◌, [], vec_items}
 use Rattle.piping.proofs.Turns.{Goes}
 use Rattle.piping.proofs.flow.pump.Given as goal
 
 abbrev pub invariant-loop-turn : goal.invariant-loop-turn
 invariant-loop-turn g l =
-    Goes g.R.LineRun.rest g.R.LineRun.sound g.R.LineRun.paused l.fn.run l.run
-    (vec_items l.fn.feed.held) (vec_items l.feed.held) (waiting l.fn.piece) (waiting l.piece) (vec_items l.fn.printed) (vec_items l.printed)
+    (vec_items l.printed ≡ [])
+    × Goes g.R.LineRun.rest g.R.LineRun.sound g.R.LineRun.paused l.fn.run l.run (vec_items l.feed.held)
     (g.I.Read.remaining l.fn.input) (g.I.Read.remaining l.input) (g.O.Write.contents l.fn.output) (g.O.Write.contents l.output)
