@@ -32,7 +32,7 @@ pub trait Printed: Symbol {
         }
     }
 
-    // The symbol's number.
+    // The symbol's number. A method, as `of_number` is, so that the one bound `Printed` brings both with their laws.
     fn number(self) -> u32
         ensures { result ≡ form.number self };
 

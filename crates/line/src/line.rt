@@ -1,5 +1,5 @@
 // A symbol line over a lent window. Its places are a ring: the oldest symbol stands at the head, and the next one
-// overwrites it.
+// overwrites it. It has no model, since contracts speak of the window's rest and of which window it is, beside what it holds.
 mod calls;
 
 #[derive(Drop)]
