@@ -186,6 +186,11 @@ module _ {S : Type 0} (K : Kind S) (p : Sheet) (t : ℕ) (before now now' : Rece
     taken : SlotCall K now now' (arrival state (take (to - from) (drop from packets))) reply → Taken K now.sheet now.counters.slots now now' (arrival state (take (to - from) (drop from packets))) reply
     taken called = took K now now' state q reply now_wide now_few (its_sheet n _ packet_long) (its_sheet (λ x. x.row) _ row_long) (its_sheet (λ x. x.row) _ mark_long) called
 
+    pub taking_never : (e : SlotRefusal) → SlotCall K now now' (arrival state (take (to - from) (drop from packets))) (replied (take (end - start) (drop start rows')) row (take (end - start) (drop start marks')) new (Err e)) → ⊥
+    taking_never e called =
+        never_refused K now now' state q (replied (take (end - start) (drop start rows')) row (take (end - start) (drop start marks')) new (Err e))
+        now_wide now_few (its_sheet n _ packet_long) (its_sheet (λ x. x.row) _ row_long) (its_sheet (λ x. x.row) _ mark_long) e called refl
+
     pub taking_more : (handed' : ℕ) → length row ≡ p.row → length new ≡ p.row → SlotCall K now now' (arrival state (take (to - from) (drop from packets))) reply → handed' ≡ handed + cond (is_some due) 1 0 →
         Taking K p t before (slots_of states packets rows (put_mid start (end - start) rows' row) marks (put_mid start (end - start) marks' new)) (i + 1) now' handed'
     taking_more handed' row_fits new-fits called counts =

@@ -16,28 +16,19 @@ use code::{Mark, SlotRefusal};
 use kinds::Symbol;
 
 impl<'w, S: Symbol> Receiver<'w, S> {
-    // Takes a slot that is not refused, and answers what fell due with it.
+    // Takes a slot of this state; the packet of a missed slot is not looked at.
     fn take_slot(
         &mut self,
         state: SlotState,
         packet: &[S],
         row: &mut [S],
         marks: &mut [Mark],
-    ) -> Option<Due>
-        requires wide { need self.old.sheet ≤ room self.old }
-        requires few { self.old.counters.slots < 1000000 }
-        requires packet { length packet.now ≡ n self.old.sheet }
-        requires symbols { length row.old ≡ self.old.sheet.row }
-        requires marks { length marks.old ≡ self.old.sheet.row }
-        ensures { SlotCall S.kind self.old self.new (arrival state packet.now) (replied row.old row.new marks.old marks.new (Ok result)) }
+    ) -> Result<Option<Due>, SlotRefusal>
+        ensures { SlotCall S.kind self.old self.new (arrival state packet.now) (replied row.old row.new marks.old marks.new result) }
     {
-        let answer = match state {
+        match state {
             SlotState::Arrived => self.arrived(packet, row, marks),
             SlotState::Missed => self.missed(row, marks),
-        };
-        match answer {
-            Ok(due) => due,
-            Err(_) => None,
         }
     }
 
@@ -56,16 +47,17 @@ impl<'w, S: Symbol> Receiver<'w, S> {
         let packet = self.sheet.packet_len();
         let row = self.sheet.row as usize;
         let mut handed = 0;
-        for i in 0..states.len() {
+        // An index: each slot has its part of three slices, two of which are written.
+        for (i, state) in states.iter().enumerate() {
             let from = i * packet;
             let start = i * row;
             let end = start + row;
             let due = self.take_slot(
-                states[i],
+                *state,
                 &packets[from..from + packet],
                 &mut rows[start..end],
                 &mut marks[start..end],
-            );
+            )?;
             if due.is_some() {
                 handed += 1;
             }

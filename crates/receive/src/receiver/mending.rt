@@ -1,6 +1,6 @@
 // The row that falls due, from what the receiver remembers: copied where it arrived, else mended block by block. The symbols
 // of a block have one carrying slot, and lie in one piece of the line.
-ghost use Rattle.std.specs.Prelude.{◌≡◌, ◌+◌, ◌-◌, ◌*◌, ◌<◌, min, false, map, length, slice_index_or};
+ghost use Rattle.std.specs.Prelude.{◌≡◌, ◌+◌, ◌-◌, ◌*◌, ◌<◌, min, false, map, length, replicate, slice_index_or};
 ghost use Rattle.std.specs.List.{range_with_len};
 ghost use Rattle.code.specs.Blocks.{size};
 ghost use Rattle.code.specs.Sheets.{n};
@@ -17,6 +17,15 @@ use crate::due::{Due, Verdict, verdict_of};
 use code::{Block, Mark};
 use kinds::Symbol;
 use line::{SymbolLine, clear};
+
+// Writes one mark into every place. A loop: `fill` writes the last one apart, and takes longer.
+fn mark_all(places: &mut [Mark], mark: Mark)
+    ensures { places.new ≡ replicate (length places.old) mark }
+{
+    for place in places.iter_mut() {
+        *place = mark;
+    }
+}
 
 // A symbol by the outlook for it: what is left of the parity, or zero.
 fn settle<S: Symbol>(outlook: Mark, parity: S, beside: S) -> S
@@ -97,7 +106,7 @@ impl<'w, S: Symbol> Receiver<'w, S> {
             let steps = self.steps_to(row, other.first as usize);
             self.line.add_back(steps, &mut sums[0..end]);
         } else {
-            outlooks[0..end].fill(Mark::Lost);
+            mark_all(&mut outlooks[0..end], Mark::Lost);
         }
     }
 
@@ -111,7 +120,7 @@ impl<'w, S: Symbol> Receiver<'w, S> {
         ensures outlooks { outlooks.new ≡ known_beside self.now.sheet (heard (memory S.kind self.now)) carrier block.first self.now.sheet.row }
     {
         clear(sums);
-        outlooks.fill(Mark::Mended);
+        mark_all(outlooks, Mark::Mended);
         for other in self.sheet.blocks() {
             self.take_in(carrier, block, other, sums, outlooks);
         }
@@ -130,7 +139,7 @@ impl<'w, S: Symbol> Receiver<'w, S> {
         let carrier = row + block.lag;
         if !self.heard(carrier) {
             clear(symbols);
-            marks.fill(Mark::Lost);
+            mark_all(marks, Mark::Lost);
             return;
         }
         self.gather(carrier, block, symbols, marks);
@@ -166,7 +175,7 @@ impl<'w, S: Symbol> Receiver<'w, S> {
     {
         if self.heard(row) {
             self.line.copy_back(self.steps_to(row, 0), symbols);
-            marks.fill(Mark::Arrived);
+            mark_all(marks, Mark::Arrived);
             Verdict::Whole
         } else {
             self.mend(row, symbols, marks);

@@ -18,7 +18,7 @@ loop-other-init g c =
     subst (λ (s : Blocks). BlocksFrom p 0 s) (sym c.into_iter-other-iterator.ensures.into_iter_gives) c.blocks-other-items.ensures in (
       from.sheet,
       c.clear.ensures ∙ filled_with _ K.zero _ _ c.requires.symbols (λ i l. refl) ∙ sym (from_first (sums_beside K p h c.args.carrier c.args.block.first) from),
-      c.fill.ensures.after (λ y e. e) ∙ filled_with _ Mark.Mended _ _ c.requires.marks (λ i l. refl) ∙ sym (from_first (known_beside p (heard h) c.args.carrier c.args.block.first) from),
+      c.mark_all.ensures ∙ filled_with _ Mark.Mended _ _ c.requires.marks (λ i l. refl) ∙ sym (from_first (known_beside p (heard h) c.args.carrier c.args.block.first) from),
     )
 
 pub take_in-requires : goal.take_in-requires

@@ -22,7 +22,7 @@ returns-then-not-heard g c =
     let silent : heard h (j + b.lag) ≡ false = sym c.heard.ensures ∙ c.if-not-heard.true in
     record {
       symbols = c.clear.ensures ∙ lost_symbols K r.sheet h j b.first b.lag begins is c.requires.missed silent _ c.requires.symbols;
-      marks = c.fill.ensures.after (λ y e. e) ∙ lost_marks K r.sheet h j b.first b.lag begins is c.requires.missed silent _ c.requires.marks;
+      marks = c.mark_all.ensures ∙ lost_marks K r.sheet h j b.first b.lag begins is c.requires.missed silent _ c.requires.marks;
     }
 
 pub returns : goal.returns

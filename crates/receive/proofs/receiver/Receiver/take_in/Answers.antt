@@ -45,8 +45,8 @@ slice_bounds-add_back-end g c =
     let fits : c.min-end.result ≤ length c.args.sums.now = omega (arith, c.min-end.ensures, c.max.ensures) in
     fits
 
-pub slice_bounds-fill-end : goal.slice_bounds-fill-end
-slice_bounds-fill-end g c =
+pub slice_bounds-mark_all-end : goal.slice_bounds-mark_all-end
+slice_bounds-mark_all-end g c =
     let is : length c.args.outlooks.now ≡ size c.args.self.now.sheet c.args.block.first = long c.args.outlooks.now _ _ c.requires.outlooks in
     let fits : c.min-end.result ≤ length c.args.outlooks.now = omega (arith, c.min-end.ensures, c.max.ensures) in
     fits
@@ -94,5 +94,5 @@ returns-else-heard g c =
           (λ i. got_none K h (s - o.lag) (o.first + i) missed);
       outlooks = missed_known K p h s b.first o.first begins begins' o.lag is c.if-other-block.false c.if-carrier-other.false
           c.min-end.result (common p b.first o.first c.min-end.result c.max.result c.min-end.ensures c.max.ensures)
-          c.args.outlooks.now c.fill.new.self c.requires.outlooks missed (c.fill.ensures.after (λ y e. e));
+          c.args.outlooks.now c.mark_all.new.places c.requires.outlooks missed c.mark_all.ensures;
     }

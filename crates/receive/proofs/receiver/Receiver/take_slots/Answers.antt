@@ -1,8 +1,8 @@
-use Rattle.std.proofs.Common.{◌≡◌, ℕ, ◌+◌, ◌*◌, ◌≤◌, Bool, true, false, cond, length, is_some, sym, refl, ap, ◌∙◌, arith, rules}
+use Rattle.std.proofs.Common.{◌≡◌, ℕ, ◌+◌, ◌*◌, ◌≤◌, Bool, true, false, cond, length, is_some, None, sym, refl, ap, ◌∙◌, arith, rules}
 use borrow.Author.Rules.{scaled_fits≤}
 use Rattle.code.specs.Sheets.{n}
 use Rattle.receive.specs.Calls.{room}
-use Rattle.receive.proofs.Driving.{enough, part_ends, part_long, taking_none, taking_more}
+use Rattle.receive.proofs.Driving.{enough, part_ends, part_long, taking_none, taking_never, taking_more}
 use Rattle.receive.proofs.receiver.Receiver.take_slots.Goals as goal
 use Rattle.receive.proofs.receiver.Receiver.take_slots.Goals.{then-is_some, else-is_some}
 
@@ -59,6 +59,24 @@ slice_bounds-take_slot-end-in-loop-i-2 g c =
     let ends : c.loop-i.i * r.sheet.row + r.sheet.row ≤ length c.loop-i.marks = omega (arith, part_ends c.loop-i.i m r.sheet.row c.loop-i-test.true, fits.mark_places, c.loop-i.auto.marks) in
     ends
 
+-- a slot that has its part is not refused
+pub returns-in_err-due : goal.returns-in_err-due
+returns-in_err-due g c =
+    let K = g.S.Symbol.kind in
+    let r = c.args.self.now in
+    let p = r.sheet in
+    let states = c.args.states.now in
+    let packets = c.args.packets.now in
+    let rows = c.args.rows.now in
+    let marks = c.args.marks.now in
+    let i = c.loop-i.i in
+    let size = c.packet_len-packet.result in
+    let fits = enough p (room r) r.counters.slots (length states) (length packets) (length rows) (length marks) (sym c.in_ok-check_slots.ensures) in
+    absurd (taking_never K p r.counters.slots r c.loop-i.self c.take_slot.new.self states packets rows c.loop-i.rows marks c.loop-i.marks (room r) i c.loop-i.handed
+    c.loop-i-test.true fits r.top c.loop-i.auto.rows c.loop-i.auto.marks c.loop-i.invariant
+    (i * p.row) (i * p.row + p.row) (i * size) (i * size + size) refl refl (ap (λ (x : ℕ). i * x) c.packet_len-packet.ensures) (ap (λ (x : ℕ). i * size + x) c.packet_len-packet.ensures)
+    _ refl c.take_slot.new.row c.take_slot.new.marks None _ c.in_err-due.ensures)
+
 pub loop-i-preserved : goal.loop-i-preserved
 loop-i-preserved g c =
     let K = g.S.Symbol.kind in
@@ -74,12 +92,12 @@ loop-i-preserved g c =
     let last = part_ends i (length states) p.row c.loop-i-test.true in
     let row_ends : i * p.row + p.row ≤ length c.loop-i.rows = omega (arith, fits.row_places, c.loop-i.auto.rows) in
     let mark-ends : i * p.row + p.row ≤ length c.loop-i.marks = omega (arith, fits.mark_places, c.loop-i.auto.marks) in
-    let handed_is : c.if-is_some.handed ≡ c.loop-i.handed + cond (is_some c.take_slot-due.result) 1 0 = elim c.if-is_some.branch [
+    let handed_is : c.if-is_some.handed ≡ c.loop-i.handed + cond (is_some c.in_ok-due.due) 1 0 = elim c.if-is_some.branch [
       | then-is_some w ↦ w.handed-is ∙ one_more c.loop-i.handed _ c.is_some.result c.is_some.ensures w.if-is_some.true
       | else-is_some w ↦ w.handed-is ∙ no_more c.loop-i.handed _ c.is_some.result c.is_some.ensures w.if-is_some.false
     ] in
-    taking_more K p r.counters.slots r c.loop-i.self c.take_slot-due.new.self states packets rows c.loop-i.rows marks c.loop-i.marks (room r) i c.loop-i.handed
+    taking_more K p r.counters.slots r c.loop-i.self c.take_slot.new.self states packets rows c.loop-i.rows marks c.loop-i.marks (room r) i c.loop-i.handed
     c.loop-i-test.true fits r.top c.loop-i.auto.rows c.loop-i.auto.marks c.loop-i.invariant
     (i * p.row) (i * p.row + p.row) (i * size) (i * size + size) refl refl (ap (λ (x : ℕ). i * x) c.packet_len-packet.ensures) (ap (λ (x : ℕ). i * size + x) c.packet_len-packet.ensures)
-    _ refl c.take_slot-due.new.row c.take_slot-due.new.marks c.take_slot-due.result
-    c.if-is_some.handed (c.take_slot-due.auto.row ∙ part_long c.loop-i.rows (i * p.row) p.row row_ends) (c.take_slot-due.auto.marks ∙ part_long c.loop-i.marks (i * p.row) p.row mark-ends) c.take_slot-due.ensures handed_is
+    _ refl c.take_slot.new.row c.take_slot.new.marks c.in_ok-due.due
+    c.if-is_some.handed (c.take_slot.auto.row ∙ part_long c.loop-i.rows (i * p.row) p.row row_ends) (c.take_slot.auto.marks ∙ part_long c.loop-i.marks (i * p.row) p.row mark-ends) c.in_ok-due.ensures handed_is

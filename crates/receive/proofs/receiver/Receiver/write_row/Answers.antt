@@ -18,6 +18,6 @@ returns-then-heard g c =
     record {
       symbols = c.copy_back.ensures ∙ arrived_row K p r.counters.slots r.table.states (contents r.line) j came _ _
           c.steps_to.ensures c.requires.symbols;
-      marks = c.fill.ensures.after (λ y e. e) ∙ marks-are;
+      marks = c.mark_all.ensures ∙ marks-are;
       verdict = whole_verdict (marks_of p (heard h) j) (length c.args.marks.now) (sym marks-are);
     }
