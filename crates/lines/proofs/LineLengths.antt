@@ -1,5 +1,5 @@
 -- How long the lines are.
-use Rattle.std.proofs.Common.{◌≡◌, ℕ, suc, ◌+◌, ◌-◌, ◌*◌, ◌≤◌, Bool, true, false, cond, List, [], ◌∷◌, ◌++◌, length, replicate, Some, sym, refl, ap, ◌∙◌, suc-mul, zero-mul, arith, length-append}
+use Rattle.std.proofs.Common.{◌≡◌, ℕ, ◌+◌, ◌*◌, ◌≤◌, Bool, true, false, cond, List, [], ◌∷◌, ◌++◌, length, Some, sym, refl, ap, ◌∙◌, suc-mul, zero-mul, arith, length-append}
 use Rattle.std.proofs.lemmas.List.{length-replicate}
 use Rattle.kinds.specs.Form.{Form}
 use Rattle.kinds.specs.Kind.{Kind}
@@ -15,22 +15,12 @@ use Rattle.lines.proofs.Widths.{length-symbol, length_symbols}
 use Rattle.lines.proofs.Numbers.{length-field}
 use Rattle.lines.proofs.Rooms.{wide}
 
-length-ended : (line : List ℕ) → length (ended line) ≡ length line + 1
-length-ended line = length-append line (10 ∷ [])
-
--- the length of a line's fields, one after another
-two_long : (a b : List ℕ) (x y : ℕ) → length a ≡ x → length b ≡ y → length (a ++ b) ≡ x + y
-two_long a b x y p q = let l = length-append a b in omega arith
-
 -- a line of a letter and 8 columns, with what follows
 after_number : (letter number k : ℕ) (rest : List ℕ) → number ≤ 999999 → length rest ≡ k →
     length (ended (letter ∷ (field 8 number ++ rest))) ≡ 10 + k
 after_number letter number k rest h e =
     let f : length (field 8 number) ≡ 8 = length-field 8 number (omega arith) (omega arith) in
-    let t : length (field 8 number ++ rest) ≡ 8 + k = two_long (field 8 number) rest 8 k f e in
-    let l : length (ended (letter ∷ (field 8 number ++ rest))) ≡ suc (length (field 8 number ++ rest)) + 1 =
-    length-ended (letter ∷ (field 8 number ++ rest)) in
-    l ∙ omega arith
+    simp length-append (omega arith)
 
 module _ {S : Type 0} (K : Kind S) (F : Form S) where
   abbrev w : ℕ
@@ -39,8 +29,7 @@ module _ {S : Type 0} (K : Kind S) (F : Form S) where
   length-lost : length (lost_field F.layout.width) ≡ F.layout.width
   length-lost =
       let h = wide K F in
-      let back : F.layout.width - 1 + 1 ≡ F.layout.width = omega arith in
-      two_long (replicate (w - 1) 32) (63 ∷ []) (w - 1) 1 (length-replicate (w - 1) 32) refl ∙ back
+      simp (length-append, length-replicate) (omega arith)
 
   length-due : (m : Mark) (s : S) → length (due_field F m s) ≡ F.layout.width
   length-due Arrived s = length-symbol K F s
@@ -53,9 +42,9 @@ module _ {S : Type 0} (K : Kind S) (F : Form S) where
   length_dues (s ∷ row) [] e = absurd (omega arith)
   length_dues (s ∷ row) (m ∷ marks) e =
       let r = length_dues row marks (omega arith) in
-      let t : length (due_fields F (s ∷ row) (m ∷ marks)) ≡ F.layout.width + length row * F.layout.width =
-      two_long (due_field F m s) (due_fields F row marks) w (length row * w) (length-due m s) r in
-      t ∙ (omega arith ∙ sym (suc-mul (length row) w))
+      let d = length-due m s in
+      let t = suc-mul (length row) w in
+      simp length-append (omega arith)
 
   module _ (p : Sheet) where
     -- the three letters of a due row have one length
@@ -72,11 +61,7 @@ module _ {S : Type 0} (K : Kind S) (F : Form S) where
         let b : length (field 4 p.burst) ≡ 4 = length-field 4 p.burst (omega arith) (omega arith) in
         let k : length (field 4 p.row) ≡ 4 = length-field 4 p.row (omega arith) (omega arith) in
         let r : length (field 4 p.parity) ≡ 4 = length-field 4 p.parity (omega arith) (omega arith) in
-        let t : length (field 4 p.burst ++ (field 4 p.row ++ field 4 p.parity)) ≡ 12 =
-        two_long (field 4 p.burst) _ 4 8 b (two_long (field 4 p.row) (field 4 p.parity) 4 4 k r) in
-        let l : length (ended (header_line kind p)) ≡ suc (suc (length (field 4 p.burst ++ (field 4 p.row ++ field 4 p.parity)))) + 1 =
-        length-ended (header_line kind p) in
-        l ∙ omega arith
+        simp length-append (omega arith)
 
     tally_long : (a b c d : ℕ) → a ≤ 1000000 → b ≤ 1000000 → c ≤ 1000000 → d ≤ 1000000 → length (ended (tally_line a b c d)) ≡ 34
     tally_long a b c d ha hb hc hd =
@@ -84,28 +69,19 @@ module _ {S : Type 0} (K : Kind S) (F : Form S) where
         let lb : length (field 8 b) ≡ 8 = length-field 8 b (omega arith) (omega arith) in
         let lc : length (field 8 c) ≡ 8 = length-field 8 c (omega arith) (omega arith) in
         let ld : length (field 8 d) ≡ 8 = length-field 8 d (omega arith) (omega arith) in
-        let t : length (field 8 a ++ (field 8 b ++ (field 8 c ++ field 8 d))) ≡ 32 =
-        two_long (field 8 a) _ 8 24 la (two_long (field 8 b) _ 8 16 lb (two_long (field 8 c) (field 8 d) 8 8 lc ld)) in
-        let l : length (ended (tally_line a b c d)) ≡ suc (length (field 8 a ++ (field 8 b ++ (field 8 c ++ field 8 d)))) + 1 =
-        length-ended (tally_line a b c d) in
-        l ∙ omega arith
+        simp length-append (omega arith)
 
     fault_long : (a b c : ℕ) → a ≤ 99999999 → b ≤ 9999 → c ≤ 9999 → length (ended (fault_line a b c)) ≡ 18
     fault_long a b c ha hb hc =
         let la : length (field 8 a) ≡ 8 = length-field 8 a (omega arith) (omega arith) in
         let lb : length (field 4 b) ≡ 4 = length-field 4 b (omega arith) (omega arith) in
         let lc : length (field 4 c) ≡ 4 = length-field 4 c (omega arith) (omega arith) in
-        let t : length (field 8 a ++ (field 4 b ++ field 4 c)) ≡ 16 =
-        two_long (field 8 a) _ 8 8 la (two_long (field 4 b) (field 4 c) 4 4 lb lc) in
-        let l : length (ended (fault_line a b c)) ≡ suc (length (field 8 a ++ (field 4 b ++ field 4 c))) + 1 =
-        length-ended (fault_line a b c) in
-        l ∙ omega arith
+        simp length-append (omega arith)
 
     missed_long : (number : ℕ) → number ≤ 999999 → length (ended (77 ∷ field 8 number)) ≡ 10
     missed_long number h =
         let f : length (field 8 number) ≡ 8 = length-field 8 number (omega arith) (omega arith) in
-        let l : length (ended (77 ∷ field 8 number)) ≡ suc (length (field 8 number)) + 1 = length-ended (77 ∷ field 8 number) in
-        l ∙ omega arith
+        simp length-append (omega arith)
 
     pub lengths : Lengths F p
     lengths = record {

@@ -4,7 +4,7 @@ ghost use Rattle.lines.specs.Writing.{write_number};
 
 use thiserror::Error;
 
-// A number is above its field's top; a row, packet or mark list has the wrong length; the place has.
+// Each has the number of its refusal: a number is above its field's top; a row, packet or mark list has the wrong length; the place has.
 #[derive(Clone, Copy, Debug, PartialEq, Eq, Error)]
 pub enum WriteRefusal {
     #[error("a number is above the top of its field")]

@@ -40,6 +40,11 @@ begins letter (c ∷ cs) = c == letter
 abbrev pub number_of : List ℕ → Result ℕ LineFault
 number_of line = of_field (field_read 2 999999 (take 8 (drop 1 line)))
 
+-- the number of a line of this length that begins with this letter
+abbrev pub numbered : ℕ → ℕ → List ℕ → Result ℕ LineFault
+numbered letter len line =
+    cond (begins letter line) (cond (length line == len) (number_of line) (Err fault.Length)) (Err fault.Letter)
+
 -- B or D
 abbrev pub kind_of : ℕ → Result SymbolKind LineFault
 kind_of c = cond (c == 66) (Ok Bytes) (cond (c == 68) (Ok Digits) (Err fault.Kind))

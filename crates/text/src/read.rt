@@ -1,9 +1,9 @@
 // The readers of single lines, without the byte 10 that ends them. Each tests its refusals in the order of their numbers.
-ghost use Rattle.std.specs.Prelude.{◌≡◌, ◌+◌, ◌*◌, ◌^◌, ◌<◌, ◌≤◌, length, take, drop};
+ghost use Rattle.std.specs.Prelude.{◌≡◌, ◌+◌, ◌*◌, ◌^◌, ◌<◌, ◌≤◌, length, take, drop, IfOk};
 ghost use Rattle.lines.specs.Fields.{field_read};
 ghost use Rattle.lines.specs.Symbols.{symbol_read};
 ghost use Rattle.text.specs.Inverse.{HeaderInverse, RowInverse, PacketInverse, MissedInverse};
-ghost use Rattle.text.specs.Reading.{kind_of, header_read, symbols_read, symbols_of, missed_read, fitting, row_into, packet_into, symbols_or, holding, told};
+ghost use Rattle.text.specs.Reading.{kind_of, numbered, header_read, symbols_read, symbols_of, missed_read, fitting, row_into, packet_into, symbols_or, holding, told};
 
 use crate::fault::LineFault;
 use code::{PutRefusal, Sheet, SlotRefusal};
@@ -46,6 +46,22 @@ pub fn read_header(line: &[u8]) -> Result<Header, LineFault>
         [b'H', ..] => Err(LineFault::Length),
         _ => Err(LineFault::Letter),
     }
+}
+
+// The number of a line of this length that begins with this letter.
+fn numbered(line: &[u8], letter: u8, len: usize) -> Result<u32, LineFault>
+    requires { 9 ≤ len }
+    ensures value { result ≡ numbered letter len line.now }
+    ensures long { IfOk result (λ _. length line.now ≡ len) }
+{
+    if line.first() != Some(&letter) {
+        return Err(LineFault::Letter);
+    }
+    if line.len() != len {
+        return Err(LineFault::Length);
+    }
+    let number = read_number(&line[1..9], 2, 999_999)?;
+    Ok(number)
 }
 
 // The symbol in the first field of a part, of which the rest is left.
@@ -103,13 +119,7 @@ fn read_symbols<P: Printed>(
     ensures answer { result ≡ told (fitting misfit (length place.old) (symbols_of P.form letter count next line.now)) }
     ensures place { place.new ≡ symbols_or place.old (fitting misfit (length place.old) (symbols_of P.form letter count next line.now)) }
 {
-    if line.first() != Some(&letter) {
-        return Err(LineFault::Letter);
-    }
-    if line.len() != 9 + count * P::layout().width {
-        return Err(LineFault::Length);
-    }
-    let number = read_number(&line[1..9], 2, 999_999)?;
+    let number = numbered(line, letter, 9 + count * P::layout().width)?;
     let fields = Field {
         bytes: &line[9..],
         at: 10,
@@ -173,13 +183,7 @@ pub fn read_missed(line: &[u8], next: u32) -> Result<(), LineFault>
     ensures value { result ≡ missed_read next line.now }
     ensures inverse { MissedInverse }
 {
-    if line.first() != Some(&b'M') {
-        return Err(LineFault::Letter);
-    }
-    if line.len() != 9 {
-        return Err(LineFault::Length);
-    }
-    let number = read_number(&line[1..9], 2, 999_999)?;
+    let number = numbered(line, b'M', 9)?;
     if number != next {
         return Err(LineFault::Order);
     }

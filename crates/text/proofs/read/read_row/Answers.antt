@@ -1,9 +1,5 @@
 use Rattle.text.proofs.Inverses.{row_inverse}
 use Rattle.text.proofs.read.read_row.Goals as goal
 
-pub returns : goal.returns
-returns g c = record {
-  answer = c.read_symbols.ensures.answer;
-  place = c.read_symbols.ensures.place;
-  inverse = row_inverse g.P.Symbol.kind g.P.Printed.form c.args.sheet;
-}
+pub returns-clause-inverse : goal.returns-clause-inverse
+returns-clause-inverse g c = row_inverse g.P.Symbol.kind g.P.Printed.form c.args.sheet
