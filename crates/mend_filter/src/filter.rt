@@ -13,9 +13,8 @@ use receive::window_len;
 use runs::filled;
 use std::alloc::{AllocError, Global};
 
-// Two functions, here and in `send_filter`: the type of a run has the lifetime of its window and the symbols as parameters.
-
-// Prints what the lines after a header bring.
+// Prints what the lines after a header bring. `send_filter` has its own: the type of a run has its window's lifetime and its symbols
+// as parameters, which no trait can name.
 fn mend_slots<P: Printed>(
     heap: Global,
     header: Header,

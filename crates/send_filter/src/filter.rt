@@ -13,9 +13,8 @@ use sending::SendRun;
 use std::alloc::{AllocError, Global};
 use transmit::window_len;
 
-// Two functions, here and in `mend_filter`: the type of a run has the lifetime of its window and the symbols as parameters.
-
-// Prints what the lines after a header bring.
+// Prints what the lines after a header bring. `mend_filter` has its own: the type of a run has its window's lifetime and its symbols
+// as parameters, which no trait can name.
 fn send_rows<P: Printed>(
     heap: Global,
     header: Header,
