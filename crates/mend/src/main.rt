@@ -6,7 +6,7 @@ use kinds::{Byte, Digit, Printed, Symbol};
 use lines::{Header, SymbolKind};
 use mend_filter::MendOpening;
 use mending::MendRun;
-use piping::{in_pieces, pump, run_filter, write_out};
+use piping::{in_pieces, pump_to_end, run_filter};
 use receive::window_len;
 use runs::filled;
 use std::alloc::Global;
@@ -40,12 +40,8 @@ fn mend_slots<P: Printed, I: BufRead, O: Write>(
     let packet = filled(heap, P::zero(), sheet.packet_len())?;
     let row = filled(heap, P::zero(), sheet.row as usize)?;
     let marks = filled(heap, Mark::Arrived, sheet.row as usize)?;
-    let mut run = MendRun::new(header, window.as_mut_slice(), packet, row, marks);
-    pump(heap, &mut run, input, output)?;
-    let mut printed = Vec::new(heap);
-    let fault = run.end(&mut printed)?;
-    write_out(output, &mut printed)?;
-    match fault {
+    let run = MendRun::new(header, window.as_mut_slice(), packet, row, marks);
+    match pump_to_end(heap, run, input, output, |run, printed| run.end(printed))? {
         None => Ok(ExitCode::SUCCESS),
         Some(_) => Ok(ExitCode::FAILURE),
     }
@@ -58,14 +54,19 @@ fn mend<I: Read + Drop, O: Write>(
     output: &mut O,
 ) -> anyhow::Result<ExitCode> {
     let mut input = in_pieces(heap, input)?;
-    let mut opening = MendOpening::new();
-    pump(heap, &mut opening, &mut input, output)?;
-    if !opening.is_paused() {
-        let mut printed = Vec::new(heap);
-        opening.take_line(&[], &mut printed)?;
-        write_out(output, &mut printed)?;
-    }
-    let Some(header) = opening.header() else {
+    let header = pump_to_end(
+        heap,
+        MendOpening::new(),
+        &mut input,
+        output,
+        |mut opening, printed| {
+            if !opening.is_paused() {
+                opening.take_line(&[], printed)?;
+            }
+            Ok(opening.header())
+        },
+    )?;
+    let Some(header) = header else {
         return Ok(ExitCode::FAILURE);
     };
     match header.kind {

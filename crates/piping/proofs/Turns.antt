@@ -35,7 +35,7 @@ shown_taken xs piece now new limit used within front is fits drops =
     room (Some n) h = omega arith
 
 module _ {R : Type 0} (rest : R → List (List ℕ) → List ℕ) (sound : R → Type 0) (paused : R → Bool) where
-  -- A piece was shown, and the run was fed with it ..
+  -- a piece was shown, and the run was fed with it
   pub fed : {before after : R} {held held' printed printed' : List ℕ} {left left' : Option (List ℕ)} (now : Option (List ℕ)) (limit : Option ℕ)
       (piece : List ℕ) (used : ℕ) → 0 < length piece → IfSome left (λ xs. StartsWith xs piece) → Keeps left now →
       IfSome left (λ _. IfSome limit (λ n. length piece ≤ n)) → Fed rest sound paused before after held held' piece printed printed' used →
@@ -58,21 +58,6 @@ module _ {R : Type 0} (rest : R → List (List ℕ) → List ℕ) (sound : R →
         over = λ e. absurd (true_false e);
         going = λ e. absurd (true_false e);
       }
-
-  -- .. or there was none.
-  pub none_left : {before : R} {held printed : List ℕ} {left : Option (List ℕ)} (now : Option (List ℕ)) (piece : List ℕ) → length piece ≡ 0 →
-      IfSome left (λ xs. length piece ≡ 0 → xs ≡ []) → Keeps left now →
-      PieceFed rest sound paused before before held held printed printed left now false
-  none_left now piece none end keeps s p xs l = record {
-    remains = xs;
-    leaves = kept xs now (subst (λ o. Keeps o now) l keeps);
-    stays = s;
-    prints = refl;
-    none_held = λ e. absurd (true_false (sym e ∙ p));
-    some = λ e. absurd (true_false (sym e));
-    over = λ _. subst (λ o. IfSome o (λ x. length piece ≡ 0 → x ≡ [])) l end none;
-    going = λ _. p;
-  }
 
   -- With what was written so far, the rest is what it was.
   pub record Going (before now : R) (held left out : List ℕ) (left' out' : Option (List ℕ)) : Type 0 where

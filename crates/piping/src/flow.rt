@@ -1,12 +1,13 @@
-ghost use Rattle.std.specs.Prelude.{◌≡◌, ◌<◌, [], IfOk, OnOk, OnErr};
+ghost use Rattle.std.specs.Prelude.{◌≡◌, ◌<◌, [], Ok, IfOk, IfErr, OnOk, OnErr};
 ghost use Rattle.std.specs.Io.Buffered.{reader_buffer, reader_capacity, reader_inner};
 ghost use Rattle.std.specs.Io.KnownBytes.{Appends};
+ghost use Rattle.std.specs.IoError.{error_kind};
 ghost use Rattle.piping.specs.Pumping.{PieceFed, Pumped};
 
 use anyhow::anyhow;
-use std::alloc::Global;
+use std::alloc::{AllocError, Global};
 use std::io;
-use std::io::{BufRead, BufReader, Read, Write};
+use std::io::{BufRead, BufReader, ErrorKind, Read, Write};
 use stream::{LineFeed, LineRun};
 
 // Reads an input in pieces of up to 64 KB.
@@ -14,6 +15,7 @@ pub fn in_pieces<I: Read + Drop>(heap: Global, input: I) -> io::Result<BufReader
     ensures all { IfOk result (λ r. reader_inner r ≡ input) }
     ensures none_waits { IfOk result (λ r. reader_buffer r ≡ []) }
     ensures room { IfOk result (λ r. 0 < reader_capacity r) }
+    ensures no_memory { IfErr result (λ e. error_kind e ≡ ErrorKind.OutOfMemory) }
 {
     BufReader::with_capacity(heap, 65_536, input)
 }
@@ -70,4 +72,28 @@ pub fn pump<R: LineRun, I: BufRead, O: Write>(
         write_out(output, &mut printed)?;
     }
     Err(anyhow!("the input does not end"))
+}
+
+// Feeds the run with the input, and then writes out what its end prints; answers what the end does.
+pub fn pump_to_end<
+    R: LineRun,
+    I: BufRead,
+    O: Write,
+    T,
+    E: FnOnce(R, &mut Vec<u8>) -> Result<T, AllocError>,
+>(heap: Global, mut run: R, input: &mut I, output: &mut O, end: E) -> anyhow::Result<T>
+where
+    R: Drop,
+    T: Drop,
+    E: Drop,
+    requires { E.IsAlwaysCallable end }
+    ensures { IfOk result (λ answer. (last : R) × (fed : O) × (none printed : _) × (none.now.items ≡ []) × E.post end last none (Ok answer) printed
+        × Pumped R.rest R.sound R.paused run last (I.remaining input.old) (I.remaining input.new) (O.contents output.old) (O.contents fed)
+        × Appends (O.contents fed) (O.contents output.new) printed.now.items) }
+{
+    pump(heap, &mut run, input, output)?;
+    let mut printed = Vec::new(heap);
+    let answer = end(run, &mut printed)?;
+    write_out(output, &mut printed)?;
+    Ok(answer)
 }

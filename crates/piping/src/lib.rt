@@ -4,5 +4,5 @@
 mod flow;
 mod program;
 
-pub use flow::{in_pieces, pump, write_out};
+pub use flow::{in_pieces, pump, pump_to_end, write_out};
 pub use program::run_filter;

@@ -3,7 +3,7 @@
 
 use kinds::{Byte, Digit, Printed, Symbol};
 use lines::{Header, SymbolKind};
-use piping::{in_pieces, pump, run_filter, write_out};
+use piping::{in_pieces, pump_to_end, run_filter};
 use runs::filled;
 use send_filter::SendOpening;
 use sending::SendRun;
@@ -35,12 +35,8 @@ fn send_rows<P: Printed, I: BufRead, O: Write>(
     let mut window = filled(heap, P::zero(), window_len(sheet))?;
     let row = filled(heap, P::zero(), sheet.row as usize)?;
     let packet = filled(heap, P::zero(), sheet.packet_len())?;
-    let mut run = SendRun::new(header, window.as_mut_slice(), row, packet);
-    pump(heap, &mut run, input, output)?;
-    let mut printed = Vec::new(heap);
-    let fault = run.end(&mut printed)?;
-    write_out(output, &mut printed)?;
-    match fault {
+    let run = SendRun::new(header, window.as_mut_slice(), row, packet);
+    match pump_to_end(heap, run, input, output, |run, printed| run.end(printed))? {
         None => Ok(ExitCode::SUCCESS),
         Some(_) => Ok(ExitCode::FAILURE),
     }
@@ -53,14 +49,19 @@ fn send<I: Read + Drop, O: Write>(
     output: &mut O,
 ) -> anyhow::Result<ExitCode> {
     let mut input = in_pieces(heap, input)?;
-    let mut opening = SendOpening::new();
-    pump(heap, &mut opening, &mut input, output)?;
-    if !opening.is_paused() {
-        let mut printed = Vec::new(heap);
-        opening.end(&mut printed)?;
-        write_out(output, &mut printed)?;
-    }
-    let Some(header) = opening.header() else {
+    let header = pump_to_end(
+        heap,
+        SendOpening::new(),
+        &mut input,
+        output,
+        |mut opening, printed| {
+            if !opening.is_paused() {
+                opening.end(printed)?;
+            }
+            Ok(opening.header())
+        },
+    )?;
+    let Some(header) = header else {
         return Ok(ExitCode::FAILURE);
     };
     match header.kind {
