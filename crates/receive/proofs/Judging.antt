@@ -18,7 +18,7 @@ module _ {X : Type 0} (test : X → Bool) where
   counted_by = is_count_by (count test) test refl (λ x xs. one_or (test x) (count test xs))
 
   -- a count of all members, and of one member more
-  pub counted_all : (xs : List X) (i n : ℕ) → length xs ≤ i → n ≡ count_by test (take i xs) → n ≡ count test xs
+  counted_all : (xs : List X) (i n : ℕ) → length xs ≤ i → n ≡ count_by test (take i xs) → n ≡ count test xs
   counted_all xs i n past was = was ∙ ap (count_by test) (take_all i xs past) ∙ sym (counted_by xs)
 
   pub counted_more : (xs : List X) (i : ℕ) (d : X) (n more : ℕ) → i < length xs → n ≡ count_by test (take i xs) → more ≡ cond (test (get_or xs i d)) 1 0 → n + more ≡ count_by test (take (i + 1) xs)
@@ -46,7 +46,14 @@ module _ {X : Type 0} (test : X → Bool) where
       let within : position_or_len test xs < length xs = omega (arith, picked_within xs some, first_at xs) in
       ap (λ p. unwrap_or p 0) (at ∙ cond-true _ _ _ (lt-ltb _ _ within)) ∙ sym (first_at xs)
 
-module _ (marks : List Mark) (m l : ℕ) (mended : m ≡ count is_mended marks) (lost : l ≡ count is_lost marks) where
+-- after a loop over all marks, which counted m that are mended and l that are lost
+module _ (marks : List Mark) (past m l : ℕ) (all : length marks ≤ past) (has : m ≡ count_by is_mended (take past marks)) (lacks : l ≡ count_by is_lost (take past marks)) where
+  mended : m ≡ count is_mended marks
+  mended = counted_all is_mended marks past m all has
+
+  lost : l ≡ count is_lost marks
+  lost = counted_all is_lost marks past l all lacks
+
   pub lost_verdict : (i : ℕ) (o : Option ℕ) → 0 < l → o ≡ position is_lost marks → i ≡ unwrap_or o 0 → Verdict.Lost m l i ≡ verdict marks
   lost_verdict i o some at is =
       let picked : 0 < count is_lost marks = omega (arith, lost) in

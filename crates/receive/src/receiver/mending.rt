@@ -1,5 +1,6 @@
 // The row that falls due, from what the receiver remembers: copied where it arrived, else mended block by block. The symbols
-// of a block have one carrying slot, and lie in one piece of the line.
+// of a block have one carrying slot, and lie in one piece of the line. The places for symbols and marks come as two slices, as
+// the calls get them: each is cut and written by itself.
 ghost use Rattle.std.specs.Prelude.{◌≡◌, ◌+◌, ◌-◌, ◌*◌, ◌<◌, min, false, map, length, replicate, slice_index_or};
 ghost use Rattle.std.specs.List.{range_with_len};
 ghost use Rattle.code.specs.Blocks.{size};

@@ -4,7 +4,7 @@ use denote.Enum.Bare.{sameb}
 use Rattle.code.specs.contracts.mark.Mark.{the_type}
 use Rattle.code.specs.declared.mark.Mark.{Mark}
 use Rattle.receive.specs.Handing.{is_mended, is_lost}
-use Rattle.receive.proofs.Judging.{counted_all, counted_more, lost_verdict, mended_verdict, whole_verdict}
+use Rattle.receive.proofs.Judging.{counted_more, lost_verdict, mended_verdict, whole_verdict}
 use Rattle.receive.proofs.due.verdict_of.Goals as goal
 
 one_mended : (x : Mark) → bool_byte (sameb the_type x Mark.Mended) ≡ cond (is_mended x) 1 0
@@ -35,22 +35,16 @@ loop-mark-preserved c =
 
 pub returns-then-lost-gt0 : goal.returns-then-lost-gt0
 returns-then-lost-gt0 c =
-    let marks = c.args.marks.now in
     let v = c.loop-mark.invariant in
-    lost_verdict marks _ _ (counted_all is_mended marks c.loop-mark.mark-index _ c.loop-mark-test.false v.0)
-    (counted_all is_lost marks c.loop-mark.mark-index _ c.loop-mark-test.false v.1)
+    lost_verdict c.args.marks.now c.loop-mark.mark-index _ _ c.loop-mark-test.false v.0 v.1
     c.unwrap_or-first.result c.first_lost.result c.if-lost-gt0.true c.first_lost.ensures c.unwrap_or-first.ensures
 
 pub returns-then-mended-gt0 : goal.returns-then-mended-gt0
 returns-then-mended-gt0 c =
-    let marks = c.args.marks.now in
     let v = c.loop-mark.invariant in
-    mended_verdict marks _ _ (counted_all is_mended marks c.loop-mark.mark-index _ c.loop-mark-test.false v.0)
-    (counted_all is_lost marks c.loop-mark.mark-index _ c.loop-mark-test.false v.1) c.if-lost-gt0.false c.if-mended-gt0.true
+    mended_verdict c.args.marks.now c.loop-mark.mark-index _ _ c.loop-mark-test.false v.0 v.1 c.if-lost-gt0.false c.if-mended-gt0.true
 
 pub returns-else-mended-gt0 : goal.returns-else-mended-gt0
 returns-else-mended-gt0 c =
-    let marks = c.args.marks.now in
     let v = c.loop-mark.invariant in
-    whole_verdict marks _ _ (counted_all is_mended marks c.loop-mark.mark-index _ c.loop-mark-test.false v.0)
-    (counted_all is_lost marks c.loop-mark.mark-index _ c.loop-mark-test.false v.1) c.if-lost-gt0.false c.if-mended-gt0.false
+    whole_verdict c.args.marks.now c.loop-mark.mark-index _ _ c.loop-mark-test.false v.0 v.1 c.if-lost-gt0.false c.if-mended-gt0.false
