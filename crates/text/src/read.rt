@@ -80,7 +80,9 @@ fn next_symbol<P: Printed>(part: &mut Field<'_>) -> Result<P, FieldFault>
     first.read_symbol()
 }
 
-// The symbols of a part with a field for each.
+// The symbols of a part with a field for each. Neither this loop nor the next is inlined: among its caller's variables a loop's own
+// would leave the registers.
+#[inline(never)]
 fn read_fields<P: Printed>(mut part: Field<'_>, symbols: &mut [P]) -> Result<(), FieldFault>
     requires fill { length part.bytes.now ≡ length symbols.old * P.form.layout.width }
     requires short { part.at + length part.bytes.now < 2 ^ 32 }
@@ -92,7 +94,7 @@ fn read_fields<P: Printed>(mut part: Field<'_>, symbols: &mut [P]) -> Result<(),
     Ok(())
 }
 
-// Whether so many fields hold symbols. Not inlined: among its caller's variables those of the loop would leave the registers.
+// Whether so many fields hold symbols.
 #[inline(never)]
 fn check_fields<P: Printed>(mut part: Field<'_>, count: usize) -> Result<(), FieldFault>
     requires fill { length part.bytes.now ≡ count * P.form.layout.width }
