@@ -6,8 +6,8 @@ use Rattle.relay.proofs.passing.hall.Given as goal
 
 abbrev pub invariant-loop-line : goal.invariant-loop-line
 invariant-loop-line l =
-    (l.before + length l.rest ≤ length l.text)
-    × (vec_items l.out ++ text_of (all_passed (listed l.missed) l.before (lines_of l.rest)) ≡ hall (listed l.missed) l.text)
+    (vec_items l.out ++ text_of (all_passed (listed l.missed) l.before (lines_of l.rest)) ≡ hall (listed l.missed) l.text)
+    × (l.before + length l.rest ≤ length l.text)
 
 abbrev pub decreases-loop-line : goal.decreases-loop-line
 decreases-loop-line l = length l.rest
