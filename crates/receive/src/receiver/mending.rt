@@ -49,7 +49,7 @@ fn settle_all<S: Symbol>(
     ensures { places.new ≡ map (λ i. settled S.kind (slice_index_or outlooks.now i Mark.Arrived) (symbol_back S.kind.zero (contents line.now) (steps - i)) (slice_index_or places.old i S.kind.zero)) (range_with_len 0 (length places.old)) }
 {
     for (i, place) in places.iter_mut().enumerate() {
-        let parity = line.back(steps.saturating_sub(i)).unwrap_or(S::zero());
+        let parity = line.back_or_zero(steps.saturating_sub(i));
         *place = settle(outlooks[i], parity, *place);
     }
 }
