@@ -55,6 +55,7 @@ pub fn hall(heap: Global, text: &[u8], missed: &[u32]) -> Result<Vec<u8>, AllocE
     ensures relays { Relays }
 {
     let mut out = Vec::new(heap);
+    // Counted by hand: the library's `split` has a piece more behind a last byte 10.
     let mut rest = text;
     let mut before = 0;
     while let Some((line, more)) = split_line(rest) {
