@@ -5,6 +5,7 @@ ghost use Rattle.relay.specs.Relaying.{hall as turning, Relays};
 ghost use Rattle.relay.specs.Halls.{listed, passed};
 
 use lines::write_missed;
+use runs::print_with;
 use std::alloc::{AllocError, Global};
 use stream::split_line;
 
@@ -29,9 +30,7 @@ fn put_missed(out: &mut Vec<u8>, slot: u32) -> Result<(), AllocError>
     requires { slot < 1000000 }
     ensures { OnOk result (out.new.items ≡ out.old.items ++ ended (missed_line slot)) }
 {
-    let mut place = [0; 10];
-    let _ = write_missed(&mut place, slot);
-    out.extend_from_slice(&place)
+    print_with(10, |line| write_missed(line, slot), out)
 }
 
 // Writes the line that follows so many others, as it leaves the hall.
