@@ -61,7 +61,7 @@ fn mend<I: Read + Drop, O: Write>(
         output,
         |mut opening, printed| {
             if !opening.is_paused() {
-                opening.take_line(&[], printed)?;
+                opening.end(printed)?;
             }
             Ok(opening.header())
         },

@@ -1,5 +1,5 @@
 // A run up to its header.
-ghost use Rattle.std.specs.Prelude.{◌≡◌, ⊤, IfOk, OnOk};
+ghost use Rattle.std.specs.Prelude.{◌≡◌, IfOk, OnOk};
 ghost use Rattle.runs.specs.declared.standing.Standing.TheVariants.{BeforeHeader};
 ghost use Rattle.opening.specs.Opening.{opening_rest, Openable, opened, header_in, FirstTaken, EndedEmpty, Opened};
 
@@ -13,21 +13,10 @@ use stream::LineRun;
 use text::{RunFault, read_header};
 
 // Where a run of the program G stands, from before its header to behind it.
+#[derive_where(Clone, Copy)]
 pub struct Opening<G> {
     standing: Standing,
     program: PhantomData<G>,
-}
-
-impl<G> Copy for Opening<G> {}
-
-impl<G> Clone for Opening<G> {
-    ghost is_clone = { λ x y. y ≡ x };
-
-    ghost is_infallible = { λ _. ⊤ };
-
-    fn clone(&self) -> Result<Opening<G>, AllocError> {
-        Ok(*self)
-    }
 }
 
 impl<G: Program> Opening<G> {

@@ -81,7 +81,7 @@ fn long_list(heap: Global, rows: u32) -> anyhow::Result<Vec<u8>> {
     text.extend_from_slice(b"HD   1   1   1\n")?;
     for number in 0..rows {
         let mut line = [0; 12];
-        let _ = write_row(&mut line, sheet, number, &[Digit::D7]);
+        write_row(&mut line, sheet, number, &[Digit::D7])?;
         text.extend_from_slice(&line)?;
     }
     Ok(text)

@@ -19,6 +19,7 @@ pub struct RunReader<L> {
     ghost counted: { Counted standing },
 }
 
+// By hand: a generic struct with a ghost field takes no derive of these.
 impl<L> Copy for RunReader<L> {}
 
 impl<L> Clone for RunReader<L> {

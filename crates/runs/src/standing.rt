@@ -6,7 +6,7 @@ ghost use Rattle.runs.specs.Standings.{Counted, line_at, refused_by};
 use lines::Header;
 use text::{LineFault, RunFault};
 
-#[derive(Clone, Copy)]
+#[derive(Clone, Copy, Debug, PartialEq, Eq)]
 pub enum Standing {
     // before the header
     BeforeHeader,
@@ -45,14 +45,14 @@ impl Standing {
 }
 
 // A line that `send` reads. The symbols of a row stand in the place that was handed over.
-#[derive(Clone, Copy)]
+#[derive(Clone, Copy, Debug, PartialEq, Eq)]
 pub enum SendLine {
     Header(Header),
     Row { number: u32 },
 }
 
 // A line that `mend` reads. The symbols of a packet stand in the place that was handed over.
-#[derive(Clone, Copy)]
+#[derive(Clone, Copy, Debug, PartialEq, Eq)]
 pub enum MendLine {
     Header(Header),
     Arrived { number: u32 },

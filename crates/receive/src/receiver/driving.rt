@@ -47,7 +47,7 @@ impl<'w, S: Symbol> Receiver<'w, S> {
         let packet = self.sheet.packet_len();
         let row = self.sheet.row as usize;
         let mut handed = 0;
-        // An index: each slot has its part of three slices, two of which are written.
+        // By index: of what a loop over zipped chunks writes nothing would be known.
         for (i, state) in states.iter().enumerate() {
             let from = i * packet;
             let start = i * row;

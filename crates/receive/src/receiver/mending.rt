@@ -38,7 +38,8 @@ fn settle<S: Symbol>(outlook: Mark, parity: S, beside: S) -> S
     }
 }
 
-// The symbols of a block, whose parity symbols begin `steps` back, from the outlooks and the sums.
+// The symbols of a block, whose parity symbols begin `steps` back, from the outlooks and the sums. By index, since of what a loop
+// over a zip with `iter_mut` writes nothing would be known.
 fn settle_all<S: Symbol>(
     line: &SymbolLine<'_, S>,
     steps: usize,
