@@ -60,7 +60,7 @@ pub fn pump<R: LineRun, I: BufRead, O: Write>(
 {
     let mut feed = LineFeed::new(heap);
     let mut printed = Vec::new(heap);
-    // A count, since every loop ends: an input that does not is an error in some hundred thousand years.
+    // A count that no input reaches: a loop with no end would need leave to wait.
     for _turn in 0..u64::MAX {
         if run.is_paused() {
             return Ok(());
