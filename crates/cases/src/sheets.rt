@@ -2,7 +2,7 @@
 use code::{Sheet, SheetRefusal};
 use kinds::{Byte, Digit, Printed, Symbol};
 
-// The delay of the sheet that was made, or the refusal's number.
+// The delay of the sheet that was made, or the refusal's number, since the numbers are what is tested.
 fn made(burst: u32, row: u32, parity: u32) -> Result<u32, u32> {
     Sheet::new(burst, row, parity)
         .map(|sheet| sheet.delay)

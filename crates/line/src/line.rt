@@ -4,6 +4,7 @@ mod calls;
 
 #[derive(Drop)]
 pub struct SymbolLine<'w, S> {
+    // lent, since an end allocates nothing
     window: &'w mut [S],
     // the line runs over so many places, from the window's first one on
     places: usize,

@@ -19,7 +19,7 @@ pub enum FieldFault {
 }
 
 impl FieldFault {
-    // The refusal's number.
+    // The refusal's number. By cases, since an enum whose cases hold something is no number.
     pub fn number(self) -> u32
         ensures { result ≡ field_number self }
     {

@@ -13,6 +13,7 @@ use code::{Mark, Sheet};
 use kinds::Printed;
 
 impl SymbolKind {
+    // The kind's letter. A method, which says what the char is.
     pub fn letter(self) -> char
         ensures { result ≡ kind_letter self }
     {

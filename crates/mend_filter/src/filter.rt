@@ -55,6 +55,7 @@ impl Program for Mending {
         text: &[u8],
         out: &mut Vec<u8>,
     ) -> Result<(), AllocError> {
+        // The kind chooses the instance: no closure is generic in its symbols.
         match header.kind {
             SymbolKind::Bytes => mend_slots::<Byte>(heap, header, text, out)?,
             SymbolKind::Digits => mend_slots::<Digit>(heap, header, text, out)?,

@@ -1,4 +1,5 @@
-// A mending run after its header: it reads slots, takes them, and prints the rows that fall due.
+// A mending run after its header: it reads slots, takes them, and prints the rows that fall due. What it has in common with a sending
+// run is the trait `LineRun`.
 use code::{Mark, Sheet};
 use receive::Receiver;
 use runs::MendReader;

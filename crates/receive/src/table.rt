@@ -9,7 +9,7 @@ pub enum SlotState {
     Missed,
 }
 
-// The states of the last 512 slots: that of slot s stands at place s mod 512.
+// The states of the last 512 slots: that of slot s stands at place s mod 512. An array, since an end allocates nothing.
 #[derive(Drop)]
 pub struct SlotTable {
     states: [SlotState; 512],

@@ -69,7 +69,7 @@ pub(crate) fn letter_of(line: &[u8]) -> Option<char>
     }
 }
 
-// What was read, with the line's number beside its fault.
+// What was read, with the line's number beside its fault: the pair that `?` turns into the fault of a run.
 pub(crate) fn numbered<X>(line: u32, read: Result<X, LineFault>) -> Result<X, (u32, LineFault)>
     ensures { result ≡ paired line read }
 {

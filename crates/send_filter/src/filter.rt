@@ -55,6 +55,7 @@ impl Program for Sending {
         text: &[u8],
         out: &mut Vec<u8>,
     ) -> Result<(), AllocError> {
+        // The kind chooses the instance: no closure is generic in its symbols.
         match header.kind {
             SymbolKind::Bytes => send_rows::<Byte>(heap, header, text, out)?,
             SymbolKind::Digits => send_rows::<Digit>(heap, header, text, out)?,

@@ -95,7 +95,7 @@ impl From<(u32, TailRefusal)> for RunFault {
 }
 
 impl LineFault {
-    // The refusal's number.
+    // The refusal's number. By cases, as in a field's fault.
     pub fn number(self) -> u32
         ensures { result ≡ line_number self }
     {

@@ -10,7 +10,7 @@ use code::{PutRefusal, Sheet, SlotRefusal};
 use kinds::Printed;
 use lines::{Field, FieldFault, Header, SymbolKind};
 
-// The kind that has this letter.
+// The kind that has this letter. A function, since a `TryFrom` would stand where the kind does, below this fault.
 pub fn kind_of(letter: char) -> Result<SymbolKind, LineFault>
     ensures { result ≡ kind_of letter }
 {
@@ -158,7 +158,8 @@ pub fn read_row<P: Printed>(
     )
 }
 
-// The packet that an A line holds, which has to have the next number.
+// The packet that an A line holds, which has to have the next number. As with a row, one reader does it; the calls differ in what
+// they expect and in whose refusal a wrong place is.
 pub fn read_packet<P: Printed>(
     line: &[u8],
     sheet: Sheet,

@@ -2,7 +2,7 @@
 // lie so that some symbols are lost for good, and the receiver says so.
 #![tactic(auto)]
 
-use code::{Mark, Sheet};
+use code::{Mark, PutRefusal, Sheet, TailRefusal};
 use kinds::{Digit, Printed};
 use link::Ends;
 use receive::{Receiver, Verdict};
@@ -104,6 +104,22 @@ fn hear(
     Ok(())
 }
 
+// A packet on its way: the receiver hears it if it was written; else its refusal is shown.
+fn pass(
+    rt: &impl Print,
+    receiver: &mut Receiver<'_, Digit>,
+    slot: u32,
+    packet: &[Digit; 6],
+    written: Result<(), u32>,
+    missed: &[u32],
+) -> anyhow::Result<()> {
+    match written {
+        Ok(()) => hear(rt, receiver, slot, packet, missed)?,
+        Err(refusal) => println!(rt; "refused: {refusal}")?,
+    }
+    Ok(())
+}
+
 // Puts every row and lets the receiver hear its packet.
 fn send_rows(
     rt: &impl Print,
@@ -113,10 +129,15 @@ fn send_rows(
 ) -> anyhow::Result<()> {
     for (slot, row) in (0..).zip(ROWS) {
         let mut packet = [Digit::D0; 6];
-        match sender.put(&row.map(Digit::of_rest), &mut packet) {
-            Ok(()) => hear(rt, receiver, slot, &packet, missed)?,
-            Err(refusal) => println!(rt; "refused: {}", refusal.number())?,
-        }
+        let written = sender.put(&row.map(Digit::of_rest), &mut packet);
+        pass(
+            rt,
+            receiver,
+            slot,
+            &packet,
+            written.map_err(PutRefusal::number),
+            missed,
+        )?;
     }
     Ok(())
 }
@@ -130,10 +151,15 @@ fn send_tail(
 ) -> anyhow::Result<()> {
     for slot in 6..12 {
         let mut packet = [Digit::D0; 6];
-        match winding.tail(&mut packet) {
-            Ok(()) => hear(rt, receiver, slot, &packet, missed)?,
-            Err(refusal) => println!(rt; "refused: {}", refusal.number())?,
-        }
+        let written = winding.tail(&mut packet);
+        pass(
+            rt,
+            receiver,
+            slot,
+            &packet,
+            written.map_err(TailRefusal::number),
+            missed,
+        )?;
     }
     Ok(())
 }

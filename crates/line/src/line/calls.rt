@@ -183,7 +183,7 @@ impl<'w, S: Symbol> SymbolLine<'w, S> {
         }
     }
 
-    // The same, one symbol at a time.
+    // The same, one symbol at a time. A loop beside that of `copy_each`, from which it differs in its one line.
     #[tactic(auto, using(crate::proofs::Filling::filled_more, crate::proofs::Filling::filled_read))]
     fn add_each(&self, steps: usize, place: &mut [S])
         ensures { place.new ≡ added S.kind (contents self.now) steps place.old }

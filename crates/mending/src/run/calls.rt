@@ -85,7 +85,7 @@ impl<'w, P: Printed> MendRun<'w, P> {
         Ok(())
     }
 
-    // Takes a slot that was missed, and prints the row that falls due with it.
+    // Takes a slot that was missed, and prints the row that falls due with it. Beside `take_arrived`, as the receiver has two calls.
     fn take_missed(&mut self, out: &mut Vec<u8>) -> Result<(), AllocError>
         ensures { OnOk result (SlotTaken P.kind P.form self.old self.new None out.old.items out.new.items) }
     {

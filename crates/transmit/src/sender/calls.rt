@@ -93,7 +93,8 @@ impl<'w, S: Symbol> WindingSender<'w, S> {
         Ok(())
     }
 
-    // Whether the next tail packet can be drawn, with a place of so many symbols: the first refusal that holds.
+    // Whether the next tail packet can be drawn, with a place of so many symbols: the first refusal that holds. Not one with
+    // `check_put`, since each call names only what it can refuse.
     fn check_tail(&self, place: usize) -> Result<(), TailRefusal>
         ensures { result_err result ≡ tail_refused self.now.sheet (room self.now.line) (self.now.count.rows + self.now.count.tails) self.now.count.tails place }
     {
