@@ -11,3 +11,5 @@ mod receiving;
 mod sending;
 #[cfg(test)]
 mod sheets;
+#[cfg(test)]
+mod texts;
