@@ -4,7 +4,8 @@ use kinds::{Digit, Printed};
 use receive::Receiver;
 use std::process::Abort;
 
-// Takes a packet of so many symbols, with places of so many for a row and its marks, over a window of so many; a refusal by its number.
+// Takes a packet of so many symbols, with places of so many for a row and its marks, over a window of so many; a refusal by its
+// number, which is what is tested. The places are lent from arrays, as a caller lends them.
 fn arrived(
     rt: &impl Abort,
     window: usize,

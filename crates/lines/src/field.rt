@@ -105,13 +105,8 @@ impl Field<'_> {
         ensures { result ≡ symbol_read P.form self.entry.at self.entry.bytes.now }
     {
         let at = self.at;
-        match number_of(self.bytes) {
-            None => Err(FieldFault::NotANumber { at }),
-            Some(number) => match P::of_number(number) {
-                None => Err(FieldFault::AboveTop { at }),
-                Some(symbol) => Ok(symbol),
-            },
-        }
+        let number = number_of(self.bytes).ok_or(FieldFault::NotANumber { at })?;
+        P::of_number(number).ok_or(FieldFault::AboveTop { at })
     }
 }
 
@@ -157,7 +152,7 @@ pub fn write_field(place: &mut [u8], number: u32) -> Result<(), WriteRefusal>
     if !has_room(width, number) {
         return Err(WriteRefusal::Number);
     }
-    if width < 1 || 8 < width {
+    if !(1..=8).contains(&width) {
         return Err(WriteRefusal::Place);
     }
     put_field(place, number);

@@ -61,8 +61,7 @@ impl<G: Program> Opening<G> {
     pub fn end(&mut self, out: &mut Vec<u8>) -> Result<(), AllocError>
         ensures { OnOk result (EndedEmpty self.old self.new out.old.items out.new.items) }
     {
-        self.take_first(&[], out)?;
-        Ok(())
+        self.take_first(&[], out)
     }
 
     // Takes the first line of a whole text, and answers how many bytes were taken. No line at all is one empty line.
@@ -96,10 +95,9 @@ impl<G: Program> LineRun for Opening<G> {
     }
 
     fn refuses(&self, begun: &[u8]) -> bool {
-        match begun {
-            [] => false,
-            [letter, ..] => *letter != b'H' || 14 < begun.len(),
-        }
+        begun
+            .first()
+            .is_some_and(|letter| *letter != b'H' || 14 < begun.len())
     }
 
     fn is_paused(&self) -> bool {

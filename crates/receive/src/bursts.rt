@@ -11,7 +11,7 @@ pub fn two_bursts<S: Symbol>() -> [SlotState; 18]
     ensures bursts { FormBursts S }
 {
     let mut states = [SlotState::Arrived; 18];
-    states[0..3].fill(SlotState::Missed);
+    states[..3].fill(SlotState::Missed);
     states[9..12].fill(SlotState::Missed);
     states
 }

@@ -33,6 +33,5 @@ pub fn print_with<F: FnOnce(&mut [u8]) -> Result<(), WriteRefusal>>(
 pub fn print_fault(fault: RunFault, out: &mut Vec<u8>) -> Result<(), AllocError>
     ensures { OnOk result (out.new.items ≡ out.old.items ++ unless (fault_refused (run_line fault) (run_number fault) (run_position fault) 18) (fault_text fault)) }
 {
-    print_with(18, |line| write_fault(line, fault), out)?;
-    Ok(())
+    print_with(18, |line| write_fault(line, fault), out)
 }

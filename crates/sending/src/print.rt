@@ -18,6 +18,5 @@ pub(crate) fn print_packet<P: Printed>(
     ensures { OnOk result (out.new.items ≡ out.old.items ++ packet_text P.form sheet slot packet.now) }
 {
     let len = 10 + sheet.packet_len() * P::layout().width;
-    print_with(len, |line| write_packet(line, sheet, slot, packet), out)?;
-    Ok(())
+    print_with(len, |line| write_packet(line, sheet, slot, packet), out)
 }

@@ -41,7 +41,7 @@ pub enum RunFault {
     Tail { line: u32, refusal: TailRefusal },
 }
 
-// The conversions are written out, so that a clause that names an error knows which one `?` makes.
+// The conversions are written out, so that a clause knows which fault each makes.
 impl From<FieldFault> for LineFault {
     ghost from_gives = { λ e r. r ≡ line.Field e };
 

@@ -183,7 +183,8 @@ impl<'w, S: Symbol> SymbolLine<'w, S> {
         }
     }
 
-    // The same, one symbol at a time. A loop beside that of `copy_each`, from which it differs in its one line.
+    // The same, one symbol at a time. Beside `copy_each`: one for both would take a
+    // closure for the one line in which they differ.
     #[tactic(auto, using(crate::proofs::Filling::filled_more, crate::proofs::Filling::filled_read))]
     fn add_each(&self, steps: usize, place: &mut [S])
         ensures { place.new ≡ added S.kind (contents self.now) steps place.old }
