@@ -21,9 +21,9 @@ impl Standing {
         requires { Counted self.now }
         ensures { result ≡ line_at self.now }
     {
-        match self {
+        match *self {
             Standing::BeforeHeader => 1,
-            Standing::InRun { header: _, next } => *next + 2,
+            Standing::InRun { next, .. } => next + 2,
             Standing::Stopped(fault) => fault.line(),
         }
     }
@@ -33,13 +33,13 @@ impl Standing {
         requires { Counted self.now }
         ensures { result ≡ refused_by fault self.now }
     {
-        match self {
+        match *self {
             Standing::BeforeHeader => RunFault::Line { line: 1, fault },
-            Standing::InRun { header: _, next } => RunFault::Line {
-                line: *next + 1,
+            Standing::InRun { next, .. } => RunFault::Line {
+                line: next + 1,
                 fault,
             },
-            Standing::Stopped(fault) => *fault,
+            Standing::Stopped(fault) => fault,
         }
     }
 }
@@ -63,18 +63,12 @@ pub enum MendLine {
 pub(crate) fn letter_of(line: &[u8]) -> Option<char>
     ensures { result ≡ letter_of line.now }
 {
-    match line {
-        [] => None,
-        [first, ..] => Some(char::from(*first)),
-    }
+    line.first().map(|first| char::from(*first))
 }
 
 // What was read, with the line's number beside its fault: the pair that `?` turns into the fault of a run.
 pub(crate) fn numbered<X>(line: u32, read: Result<X, LineFault>) -> Result<X, (u32, LineFault)>
     ensures { result ≡ paired line read }
 {
-    match read {
-        Ok(value) => Ok(value),
-        Err(fault) => Err((line, fault)),
-    }
+    read.map_err(|fault| (line, fault))
 }
