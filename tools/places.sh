@@ -12,7 +12,7 @@ all='crates/*/src'
 echo 'own forms of Option and Result, flags, numbers for refusals'
 count 'functions that answer an Option of a refusal' '-> Option<[A-Z][a-z]+Refusal>' "$all"
 count 'flags in a Result' 'Result<bool>' "$all"
-count 'numbers that stand for a refusal' 'Result<(u32|\(\)), (u32|Fail)>|\(u32, u32\)' "$all"
+count 'numbers that stand for a refusal' 'Result<(u32|\(\)), u32>|Result<u32, Fail>|\(u32, u32\)' "$all"
 count 'pairs of a number and a fault' '\(u32, [A-Z][A-Za-z]+\)' "$all"
 count 'functions that answer a number which means nothing' '^    [0-9]+$' "$all"
 count 'enums (read one by one)' '^(pub(\(crate\))? )?enum ' "$all"
