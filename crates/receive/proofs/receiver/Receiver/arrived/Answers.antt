@@ -18,14 +18,4 @@ returns g c =
     sym (ap (λ (m : ℕ). slot_refused p (room r) t (not (eqb (length q) m)) (length row) (length marks)) c.packet_len.ensures)
     ∙ sym c.in_ok-check_slot.ensures in
     let fits : length q ≡ n p = eqb-true (length q) (n p) (not-false _ (accepted p (room r) t (unfit p (Some q)) (length row) (length marks) none).fit) in
-    slot_call g.S.Symbol.kind r _ c.hand_out.new.self (Some q) q row c.hand_out.new.row marks c.hand_out.new.marks c.hand_out.result
-    none fits refl
-    (record {
-      sheet = refl;
-      counters = refl;
-      table = c.note.ensures.set;
-      full = c.note.ensures.long;
-      line = c.push_all.ensures.held;
-      stays = c.push_all.ensures.kept;
-    })
-    c.hand_out.ensures
+    slot_call r (Some q) q none fits refl refl refl c.note.ensures.set c.note.ensures.long c.push_all.ensures.held c.push_all.ensures.kept c.hand_out.ensures
