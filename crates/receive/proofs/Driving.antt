@@ -38,21 +38,6 @@ accepts p w t bad symbols marks wide few fit rows places =
     cond-false _ _ _ (le-ltb w (need p) wide) ∙ cond-false _ _ _ (lt-leb top_slots t few) ∙ cond-false _ _ _ fit
     ∙ cond-false _ _ _ (or_from _ _ (ap not (eq-eqb symbols p.row rows)) (ap not (eq-eqb marks p.row places)))
 
--- a slot call that fits is not refused
-module _ {S : Type 0} (K : Kind S) (r r' : Receiver S) (state : SlotState) (q : List S) (a : Reply S) (wide : need r.sheet ≤ room r) (few : r.counters.slots < top_slots) (fits : length q ≡ n r.sheet) (rows : length a.row ≡ r.sheet.row) (places : length a.marks ≡ r.sheet.row) where
-  pub took : SlotCall K r r' (arrival state q) a → Taken K r.sheet r.counters.slots r r' (arrival state q) a
-  took called =
-      subst (λ (d : Option SlotRefusal). SlotWith K d r.sheet r.counters.slots r r' (arrival state q) a)
-      (accepts r.sheet (room r) r.counters.slots (unfit r.sheet (arrival state q)) (length a.row) (length a.marks) wide few (arrival_fits r.sheet state q fits) rows places)
-      called
-
-  pub never_refused : (e : SlotRefusal) → SlotCall K r r' (arrival state q) a → a.answer ≡ Err e → ⊥
-  never_refused e called is =
-      let ok = hands_ok K r.sheet (memory K r') r.counters.slots a (took called).hands in
-      let both : Ok ok.0 ≡ Err e = sym ok.1 ∙ is in
-      let z : ◌≡◌ {A = ℕ} 0 1 = cc both in
-      omega arith
-
 module _ {S : Type 0} (K : Kind S) where
   -- one slot call more
   pub run_more : (es : List (Event S)) (came : Option (List S)) (a : Reply S) {r s s' : Receiver S} → Run K r es s → SlotCall K s s' came a → Run K r (es ++ (slot came a ∷ [])) s'
@@ -87,25 +72,37 @@ enough p w t m packets symbols marks none =
 pub part_ends : (i m size : ℕ) → i < m → i * size + size ≤ m * size
 part_ends i m size l = omega (arith, mul-le-mul_right size (let e : i + 1 ≤ m = omega arith in e), add-mul i 1 size, one-mul size)
 
-module _ {X : Type 0} (size i : ℕ) (w ys : List X) (start end : ℕ) (from : start ≡ i * size) (to : end ≡ start + size) (within : end ≤ length w) (long : length ys ≡ end - start) where
+-- part i, cut from a list ..
+abbrev cut : {X : Type 0} (size i : ℕ) → List X → List X
+cut size i xs = take (i * size + size - i * size) (drop (i * size) xs)
+
+-- .. and written into one
+abbrev written : {X : Type 0} (size i : ℕ) (w ys : List X) → List X
+written size i w ys = put_mid (i * size) (i * size + size - i * size) w ys
+
+cut_long : {X : Type 0} (size i : ℕ) (xs : List X) → i * size + size ≤ length xs → length (cut size i xs) ≡ size
+cut_long size i xs within =
+    length-take-le (i * size + size - i * size) (drop (i * size) xs) (omega (arith, length-drop (i * size) xs)) ∙ (let e : i * size + size - i * size ≡ size = omega arith in e)
+
+module _ {X : Type 0} (size i : ℕ) (w ys : List X) (within : i * size + size ≤ length w) (long : length ys ≡ (i * size + size) - i * size) where
   -- part i was written
-  pub part_new : part size (put_mid start (end - start) w ys) i ≡ ys
+  pub part_new : part size (written size i w ys) i ≡ ys
   part_new =
-      ap₂ (λ a b. take a (drop b (put_mid start (end - start) w ys))) (let e : size ≡ end - start = omega arith in e) (sym from)
-      ∙ between-put_mid start (end - start) w ys end (omega arith) long
+      ap (λ a. take a (drop (i * size) (written size i w ys))) (let e : size ≡ i * size + size - i * size = omega arith in e)
+      ∙ between-put_mid (i * size) (i * size + size - i * size) w ys (i * size + size) (omega arith) long
 
   -- those before it stay
-  pub part_kept : (j : ℕ) → j < i → part size (put_mid start (end - start) w ys) j ≡ part size w j
+  pub part_kept : (j : ℕ) → j < i → part size (written size i w ys) j ≡ part size w j
   part_kept j l =
-      sym (drop-take (j * size) size (put_mid start (end - start) w ys))
-      ∙ ap (drop (j * size)) (take-put_mid_below start (end - start) w ys (j * size + size) (omega (arith, part_ends j i size l)) (omega arith))
+      sym (drop-take (j * size) size (written size i w ys))
+      ∙ ap (drop (j * size)) (take-put_mid_below (i * size) (i * size + size - i * size) w ys (j * size + size) (omega (arith, part_ends j i size l)) (omega arith))
       ∙ drop-take (j * size) size w
 
   -- and so do those after it
-  pub rest_kept : (old : List X) → drop (i * size) w ≡ drop (i * size) old → drop ((i + 1) * size) (put_mid start (end - start) w ys) ≡ drop ((i + 1) * size) old
+  pub rest_kept : (old : List X) → drop (i * size) w ≡ drop (i * size) old → drop ((i + 1) * size) (written size i w ys) ≡ drop ((i + 1) * size) old
   rest_kept old same =
       let next : (i + 1) * size ≡ i * size + size = add-mul i 1 size ∙ ap (λ x. i * size + x) (one-mul size) in
-      drop-put_mid start (end - start) w ys ((i + 1) * size) (omega (arith, next)) (omega arith) long
+      drop-put_mid (i * size) (i * size + size - i * size) w ys ((i + 1) * size) (omega (arith, next)) (omega arith) long
       ∙ ap (λ x. drop x w) next ∙ sym (drop-drop size (i * size) w) ∙ ap (drop size) same ∙ drop-drop size (i * size) old ∙ ap (λ x. drop x old) (sym next)
 
 count_push : {X : Type 0} (test : X → Bool) (xs : List X) (x : X) → count test (xs ++ (x ∷ [])) ≡ count test xs + cond (test x) 1 0
@@ -153,41 +150,29 @@ module _ {S : Type 0} {K : Kind S} {p : Sheet} {t : ℕ} {before now : Receiver 
     abbrev state : SlotState
     state = get_or states i Arrived
 
-    abbrev start : ℕ
-    start = i * p.row
-
-    abbrev end : ℕ
-    end = i * p.row + p.row
-
-    abbrev from : ℕ
-    from = i * size
-
-    abbrev to : ℕ
-    to = i * size + size
-
     begins : i * size ≡ i * n p
     begins = ap (λ x. i * x) its_size
 
     abbrev q : List S
-    q = take (to - from) (drop from packets)
+    q = cut size i packets
 
     abbrev reply : Answer → Reply S
-    reply answer = replied (take (end - start) (drop start rows')) row (take (end - start) (drop start marks')) new answer
+    reply answer = replied (cut p.row i rows') row (cut p.row i marks') new answer
 
-    rows_end : end ≤ length rows'
+    rows_end : i * p.row + p.row ≤ length rows'
     rows_end = omega (arith, part_ends i (length states) p.row within, so_far.fits.row_places)
 
-    marks_end : end ≤ length marks'
+    marks_end : i * p.row + p.row ≤ length marks'
     marks_end = omega (arith, part_ends i (length states) p.row within, so_far.fits.mark_places)
 
-    pub packet_long : length (take (to - from) (drop from packets)) ≡ n p
-    packet_long = length-take-le (to - from) (drop from packets) (omega (arith, length-drop from packets, begins, part_ends i (length states) (n p) within, so_far.fits.all_packets)) ∙ (let e : to - from ≡ n p = omega arith in e)
+    packet_long : length (cut size i packets) ≡ n p
+    packet_long = cut_long size i packets (omega (arith, begins, its_size, part_ends i (length states) (n p) within, so_far.fits.all_packets)) ∙ its_size
 
-    pub row_long : length (take (end - start) (drop start rows')) ≡ p.row
-    row_long = length-take-le (end - start) (drop start rows') (omega (arith, length-drop start rows', rows_end)) ∙ (let e : end - start ≡ p.row = omega arith in e)
+    row_long : length (cut p.row i rows') ≡ p.row
+    row_long = cut_long p.row i rows' (omega (arith, rows_end))
 
-    pub mark_long : length (take (end - start) (drop start marks')) ≡ p.row
-    mark_long = length-take-le (end - start) (drop start marks') (omega (arith, length-drop start marks', marks_end)) ∙ (let e : end - start ≡ p.row = omega arith in e)
+    mark_long : length (cut p.row i marks') ≡ p.row
+    mark_long = cut_long p.row i marks' (omega (arith, marks_end))
 
     pub now_wide : need now.sheet ≤ room now
     now_wide = subst (λ (x : Sheet). need x ≤ room now) (sym so_far.sheet) so_far.wide
@@ -198,34 +183,38 @@ module _ {S : Type 0} {K : Kind S} {p : Sheet} {t : ℕ} {before now : Receiver 
     its_sheet : (m : Sheet → ℕ) (l : ℕ) → l ≡ m p → l ≡ m now.sheet
     its_sheet m l e = e ∙ sym (ap m so_far.sheet)
 
+    -- is not refused
     taken : (answer : Answer) → SlotCall K now now' (arrival state q) (reply answer) → Taken K now.sheet now.counters.slots now now' (arrival state q) (reply answer)
-    taken answer = took K now now' state q (reply answer) now_wide now_few (its_sheet n _ packet_long) (its_sheet (λ x. x.row) _ row_long) (its_sheet (λ x. x.row) _ mark_long)
+    taken answer =
+        subst (λ (d : Option SlotRefusal). SlotWith K d now.sheet now.counters.slots now now' (arrival state q) (reply answer))
+        (accepts now.sheet (room now) now.counters.slots (unfit now.sheet (arrival state q)) _ _ now_wide now_few (arrival_fits now.sheet state q (its_sheet n _ packet_long)) (its_sheet (λ x. x.row) _ row_long) (its_sheet (λ x. x.row) _ mark_long))
 
     pub taking_never : (e : SlotRefusal) → SlotCall K now now' (arrival state q) (reply (Err e)) → ⊥
     taking_never e called =
-        never_refused K now now' state q (reply (Err e))
-        now_wide now_few (its_sheet n _ packet_long) (its_sheet (λ x. x.row) _ row_long) (its_sheet (λ x. x.row) _ mark_long) e called refl
+        let ok = hands_ok K now.sheet (memory K now') now.counters.slots (reply (Err e)) (taken (Err e) called).hands in
+        let both : ◌≡◌ {A = Answer} (Err e) (Ok ok.0) = ok.1 in
+        cc both
 
-    pub taking_more : (due : Option Due) (handed' : ℕ) → length row ≡ length (take (end - start) (drop start rows')) → length new ≡ length (take (end - start) (drop start marks')) → SlotCall K now now' (arrival state q) (reply (Ok due)) → handed' ≡ handed + cond (is_some due) 1 0 →
-        Taking K p t before (slots_of states packets rows (put_mid start (end - start) rows' row) marks (put_mid start (end - start) marks' new)) (i + 1) now' handed'
+    pub taking_more : (due : Option Due) (handed' : ℕ) → length row ≡ length (cut p.row i rows') → length new ≡ length (cut p.row i marks') → SlotCall K now now' (arrival state q) (reply (Ok due)) → handed' ≡ handed + cond (is_some due) 1 0 →
+        Taking K p t before (slots_of states packets rows (written p.row i rows' row) marks (written p.row i marks' new)) (i + 1) now' handed'
     taking_more due handed' row_fits new-fits called counts =
         let x : Slots S = slots_of states packets rows rows' marks marks' in
-        let y : Slots S = slots_of states packets rows (put_mid start (end - start) rows' row) marks (put_mid start (end - start) marks' new) in
+        let y : Slots S = slots_of states packets rows (written p.row i rows' row) marks (written p.row i marks' new) in
         let dues : List (Option Due) = so_far.dues ++ (due ∷ []) in
         let done = taken (Ok due) called in
-        let wrote : length row ≡ end - start = omega (arith, row_long) in
-        let noted : length new ≡ end - start = omega (arith, mark_long) in
-        let width : end - start ≡ p.row = omega arith in
-        let earlier : map (call p (slots_of states packets rows rows' marks marks') so_far.dues) (range_with_len 0 i) ≡ map (call p (slots_of states packets rows (put_mid start (end - start) rows' row) marks (put_mid start (end - start) marks' new)) (so_far.dues ++ (due ∷ []))) (range_with_len 0 i) =
+        let wrote : length row ≡ i * p.row + p.row - i * p.row = omega (arith, row_long) in
+        let noted : length new ≡ i * p.row + p.row - i * p.row = omega (arith, mark_long) in
+        let width : i * p.row + p.row - i * p.row ≡ p.row = omega arith in
+        let earlier : map (call p (slots_of states packets rows rows' marks marks') so_far.dues) (range_with_len 0 i) ≡ map (call p (slots_of states packets rows (written p.row i rows' row) marks (written p.row i marks' new)) (so_far.dues ++ (due ∷ []))) (range_with_len 0 i) =
         map_same _ _ i (tally (tally_of 0 0 0 0)) (λ j l. λ k.
         slot (arrival (get_or states j Arrived) (part (n p) packets j))
-        (replied (part p.row rows j) (sym (part_kept p.row i rows' row start end refl refl rows_end wrote j l) k)
-        (part p.row marks j) (sym (part_kept p.row i marks' new start end refl refl marks_end noted j l) k)
+        (replied (part p.row rows j) (sym (part_kept p.row i rows' row rows_end wrote j l) k)
+        (part p.row marks j) (sym (part_kept p.row i marks' new marks_end noted j l) k)
         (Ok (sym (get_or_append_left so_far.dues (due ∷ []) None j (omega (arith, so_far.long))) k)))) in
-        let latest : slot (arrival state q) (reply (Ok due)) ≡ call p (slots_of states packets rows (put_mid start (end - start) rows' row) marks (put_mid start (end - start) marks' new)) (so_far.dues ++ (due ∷ [])) i =
+        let latest : slot (arrival state q) (reply (Ok due)) ≡ call p (slots_of states packets rows (written p.row i rows' row) marks (written p.row i marks' new)) (so_far.dues ++ (due ∷ [])) i =
         λ k. slot (arrival state (take (packet_width k) (drop (begins k) packets)))
-        (replied (old_rows width k) (sym (part_new p.row i rows' row start end refl refl rows_end wrote) k)
-        (old_marks width k) (sym (part_new p.row i marks' new start end refl refl marks_end noted) k)
+        (replied (old_rows width k) (sym (part_new p.row i rows' row rows_end wrote) k)
+        (old_marks width k) (sym (part_new p.row i marks' new marks_end noted) k)
         (Ok (sym (get_or_push so_far.dues due None i so_far.long) k))) in
         let one = one_at_most (is_some due) in
         record {
@@ -240,18 +229,18 @@ module _ {S : Type 0} {K : Kind S} {p : Sheet} {t : ℕ} {before now : Receiver 
           sheet = done.sheet ∙ so_far.sheet;
           wide = omega (arith, so_far.wide, room_stays now.line now'.line done.stays);
           slots = omega (arith, done.slots, so_far.slots);
-          rows = rest_kept p.row i rows' row start end refl refl rows_end wrote rows so_far.rows;
-          marks = rest_kept p.row i marks' new start end refl refl marks_end noted marks so_far.marks;
+          rows = rest_kept p.row i rows' row rows_end wrote rows so_far.rows;
+          marks = rest_kept p.row i marks' new marks_end noted marks so_far.marks;
         }
       where
-        packet_width : to - from ≡ n p
+        packet_width : i * size + size - i * size ≡ n p
         packet_width = omega arith
 
-        old_rows : end - start ≡ p.row → take (end - start) (drop start rows') ≡ part p.row rows i
-        old_rows width = ap₂ (λ a b. take a (drop b rows')) width refl ∙ ap (take p.row) so_far.rows
+        old_rows : i * p.row + p.row - i * p.row ≡ p.row → cut p.row i rows' ≡ part p.row rows i
+        old_rows width = ap (λ a. take a (drop (i * p.row) rows')) width ∙ ap (take p.row) so_far.rows
 
-        old_marks : end - start ≡ p.row → take (end - start) (drop start marks') ≡ part p.row marks i
-        old_marks width = ap₂ (λ a b. take a (drop b marks')) width refl ∙ ap (take p.row) so_far.marks
+        old_marks : i * p.row + p.row - i * p.row ≡ p.row → cut p.row i marks' ≡ part p.row marks i
+        old_marks width = ap (λ a. take a (drop (i * p.row) marks')) width ∙ ap (take p.row) so_far.marks
 
 module _ {S : Type 0} (p : Sheet) (x : Slots S) (dues : List (Option Due)) where
   abbrev came_at : ℕ → Option (List S)
