@@ -1,5 +1,5 @@
 -- What a slot carries beside a block, taken block by block. Assumes nothing.
-use Rattle.std.proofs.Common.{◌≡◌, ℕ, zero, suc, ◌+◌, ◌-◌, ◌*◌, ◌/◌, ◌<◌, ◌≤◌, min, Bool, true, false, cond, not, ◌&&◌, ◌||◌, eqb, ◌≢◌, List, ◌++◌, map, length, get_or, take, drop, replicate, sym, refl, ap, ◌∙◌, ap₂, inl, inr, div-add-mod', arith}
+use Rattle.std.proofs.Common.{◌≡◌, ℕ, zero, suc, ◌+◌, ◌-◌, ◌*◌, ◌/◌, ◌<◌, ◌≤◌, min, max, Bool, true, false, cond, not, ◌&&◌, ◌||◌, eqb, ◌≢◌, List, ◌++◌, map, length, get_or, take, drop, replicate, sym, refl, ap, ◌∙◌, ap₂, inl, inr, div-add-mod', arith}
 use native.Mathlib.Nat.{div-eq_of_lt-le}
 use Rattle.std.specs.List.{range_with_len}
 use Rattle.std.proofs.lemmas.List.{length-append, length-drop, length-take-le, length-replicate, get_or_append_left, get_or-append_right, get_or-drop, get_or-take, get_or-replicate}
@@ -8,6 +8,7 @@ use Rattle.std.proofs.lemmas.Bool.{cases_eq, cases_lt, eq-eqb, ne_eqb, and_left,
 use Rattle.kinds.specs.Kind.{Kind}
 use Rattle.kinds.proofs.Algebra.{zero-sum}
 use Rattle.kinds.proofs.Lists.{map_same}
+use Rattle.code.specs.declared.block.Block.{Block}
 use Rattle.code.specs.declared.mark.Mark.{Mark}
 use Rattle.code.specs.declared.mark.Mark.TheVariants.{Arrived, Mended, Lost}
 use Rattle.code.specs.declared.sheet.Sheet.{Sheet}
@@ -15,9 +16,13 @@ use Rattle.code.specs.Sheets.{lag, column}
 use Rattle.code.specs.Packets.{Rows, brought}
 use Rattle.code.specs.Mending.{History, heard, got, beside, known, all_known}
 use Rattle.code.proofs.Carrying.{gathered, gathered_taken, gathered_left}
-use Rattle.code.proofs.Pieces.{Begins, block-lag, block-column}
+use Rattle.code.proofs.Pieces.{Begins, block_begins, block_carried, block-lag, block-column}
 use Rattle.code.specs.Blocks.{size}
-use Rattle.receive.specs.Blocks.{sums_beside, known_beside}
+use Rattle.receive.specs.Blocks.{of_block, sums_beside, known_beside}
+
+-- a list that holds so much for each symbol of a block is as long as the block
+pub block_long : {X : Type 0} (p : Sheet) (first : ℕ) (f : ℕ → X) → length (of_block p first f) ≡ size p first
+block_long p first f = length-map-range_with_len (λ i. f (first + i)) 0 (size p first)
 
 -- a front of a list is written, and all of it is as f says
 pub front_written : {X : Type 0} (f : ℕ → X) (w ys : List X) (e n : ℕ) (d : X) → length w ≡ n → e ≤ n → length ys ≡ e → ((i : ℕ) → i < e → get_or ys i d ≡ f i) → ((i : ℕ) → e ≤ i → i < n → get_or w i d ≡ f i) → ys ++ drop (e - 0) w ≡ map f (range_with_len 0 n)
@@ -98,7 +103,19 @@ module _ (p : Sheet) (first : ℕ) (begins : Begins p first) (i : ℕ) (below : 
       and_true true = refl
       and_true false = refl
 
-module _ {S : Type 0} (K : Kind S) (p : Sheet) (h : History S) (s first other : ℕ) (begins : Begins p first) (begins' : Begins p other) where
+module _ {S : Type 0} (K : Kind S) {p : Sheet} (h : History S) (s : ℕ) (b o : Block) (sheets : (b.sheet ≡ p) × (o.sheet ≡ p)) where
+  abbrev first : ℕ
+  first = b.first
+
+  abbrev other : ℕ
+  other = o.first
+
+  begins : Begins p first
+  begins = block_begins b sheets.0
+
+  begins' : Begins p other
+  begins' = block_begins o sheets.1
+
   abbrev so_far : ℕ → ℕ → S
   so_far i m = gathered K p (got K h) s (beside p (first + i)) m
 
@@ -150,9 +167,12 @@ module _ {S : Type 0} (K : Kind S) (p : Sheet) (h : History S) (s first other : 
   ]))
 
   -- the slot carries it so many slots after its row
-  module _ (since : ℕ) (is : since ≡ (1 + other / p.parity) * p.burst) (apart : other ≢ first) where
+  module _ (apart : other ≢ first) where
+    abbrev since : ℕ
+    since = o.lag
+
     its_lag : (i : ℕ) → i < size p other → lag p (other + i) ≡ since
-    its_lag i l = block-lag p other begins' (other + i) (omega arith) (omega arith) ∙ sym is
+    its_lag i l = block-lag p other begins' (other + i) (omega arith) (omega arith) ∙ sym (block_carried o sheets.1)
 
     -- a row before row 0
     pub early_sums : s < since → sums_beside K p h s first other ≡ sums_beside K p h s first (min (other + p.parity) p.row)
@@ -175,7 +195,10 @@ module _ {S : Type 0} (K : Kind S) (p : Sheet) (h : History S) (s first other : 
       heard_known came = kept_known apart (λ i l. knows i l ∙ came)
 
       -- the two blocks have so many columns in common
-      module _ (end : ℕ) (common : end ≡ min (size p first) (size p other)) where
+      module _ (end top : ℕ) (ends : end ≡ min p.parity (p.row - top)) (tops : top ≡ max first other) where
+        common : end ≡ min (size p first) (size p other)
+        common = omega arith
+
         end_first : end ≤ size p first
         end_first = omega arith
 

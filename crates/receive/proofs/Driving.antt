@@ -19,7 +19,7 @@ use Rattle.receive.specs.declared.table.SlotState.{SlotState}
 use Rattle.receive.specs.declared.table.SlotState.TheVariants.{Arrived, Missed}
 use Rattle.receive.specs.Memory.{need, memory}
 use Rattle.receive.specs.Refusing.{unfit, slot_refused, slots_refused}
-use Rattle.receive.specs.Handing.{Reply, replied, count}
+use Rattle.receive.specs.Handing.{Answer, Reply, replied, count}
 use Rattle.receive.specs.Calls.{tally_of, room, Taken, SlotWith, SlotCall}
 use Rattle.receive.specs.Runs.{Event, slot, tally, Run, stop, slot_call, tally_call}
 use Rattle.receive.specs.Driving.{part, arrival, Slots, slots_of, call, calls}
@@ -37,21 +37,6 @@ accepts : (p : Sheet) (w t : ℕ) (bad : Bool) (symbols marks : ℕ) → need p 
 accepts p w t bad symbols marks wide few fit rows places =
     cond-false _ _ _ (le-ltb w (need p) wide) ∙ cond-false _ _ _ (lt-leb top_slots t few) ∙ cond-false _ _ _ fit
     ∙ cond-false _ _ _ (or_from _ _ (ap not (eq-eqb symbols p.row rows)) (ap not (eq-eqb marks p.row places)))
-
--- a slot call that fits is not refused
-module _ {S : Type 0} (K : Kind S) (r r' : Receiver S) (state : SlotState) (q : List S) (a : Reply S) (wide : need r.sheet ≤ room r) (few : r.counters.slots < top_slots) (fits : length q ≡ n r.sheet) (rows : length a.row ≡ r.sheet.row) (places : length a.marks ≡ r.sheet.row) where
-  pub took : SlotCall K r r' (arrival state q) a → Taken K r.sheet r.counters.slots r r' (arrival state q) a
-  took called =
-      subst (λ (d : Option SlotRefusal). SlotWith K d r.sheet r.counters.slots r r' (arrival state q) a)
-      (accepts r.sheet (room r) r.counters.slots (unfit r.sheet (arrival state q)) (length a.row) (length a.marks) wide few (arrival_fits r.sheet state q fits) rows places)
-      called
-
-  pub never_refused : (e : SlotRefusal) → SlotCall K r r' (arrival state q) a → a.answer ≡ Err e → ⊥
-  never_refused e called is =
-      let ok = hands_ok K r.sheet (memory K r') r.counters.slots a (took called).hands in
-      let both : Ok ok.0 ≡ Err e = sym ok.1 ∙ is in
-      let z : ◌≡◌ {A = ℕ} 0 1 = cc both in
-      omega arith
 
 module _ {S : Type 0} (K : Kind S) where
   -- one slot call more
@@ -87,29 +72,37 @@ enough p w t m packets symbols marks none =
 pub part_ends : (i m size : ℕ) → i < m → i * size + size ≤ m * size
 part_ends i m size l = omega (arith, mul-le-mul_right size (let e : i + 1 ≤ m = omega arith in e), add-mul i 1 size, one-mul size)
 
-pub part_long : {X : Type 0} (xs : List X) (start size : ℕ) → start + size ≤ length xs → length (take (start + size - start) (drop start xs)) ≡ size
-part_long xs start size within =
-    length-take-le (start + size - start) (drop start xs) (omega (arith, length-drop start xs)) ∙ (let e : start + size - start ≡ size = omega arith in e)
+-- part i, cut from a list ..
+abbrev cut : {X : Type 0} (size i : ℕ) → List X → List X
+cut size i xs = take (i * size + size - i * size) (drop (i * size) xs)
 
-module _ {X : Type 0} (size i : ℕ) (w ys : List X) (start end : ℕ) (from : start ≡ i * size) (to : end ≡ start + size) (within : end ≤ length w) (long : length ys ≡ end - start) where
+-- .. and written into one
+abbrev written : {X : Type 0} (size i : ℕ) (w ys : List X) → List X
+written size i w ys = put_mid (i * size) (i * size + size - i * size) w ys
+
+cut_long : {X : Type 0} (size i : ℕ) (xs : List X) → i * size + size ≤ length xs → length (cut size i xs) ≡ size
+cut_long size i xs within =
+    length-take-le (i * size + size - i * size) (drop (i * size) xs) (omega (arith, length-drop (i * size) xs)) ∙ (let e : i * size + size - i * size ≡ size = omega arith in e)
+
+module _ {X : Type 0} (size i : ℕ) (w ys : List X) (within : i * size + size ≤ length w) (long : length ys ≡ (i * size + size) - i * size) where
   -- part i was written
-  pub part_new : part size (put_mid start (end - start) w ys) i ≡ ys
+  pub part_new : part size (written size i w ys) i ≡ ys
   part_new =
-      ap₂ (λ a b. take a (drop b (put_mid start (end - start) w ys))) (let e : size ≡ end - start = omega arith in e) (sym from)
-      ∙ between-put_mid start (end - start) w ys end (omega arith) long
+      ap (λ a. take a (drop (i * size) (written size i w ys))) (let e : size ≡ i * size + size - i * size = omega arith in e)
+      ∙ between-put_mid (i * size) (i * size + size - i * size) w ys (i * size + size) (omega arith) long
 
   -- those before it stay
-  pub part_kept : (j : ℕ) → j < i → part size (put_mid start (end - start) w ys) j ≡ part size w j
+  pub part_kept : (j : ℕ) → j < i → part size (written size i w ys) j ≡ part size w j
   part_kept j l =
-      sym (drop-take (j * size) size (put_mid start (end - start) w ys))
-      ∙ ap (drop (j * size)) (take-put_mid_below start (end - start) w ys (j * size + size) (omega (arith, part_ends j i size l)) (omega arith))
+      sym (drop-take (j * size) size (written size i w ys))
+      ∙ ap (drop (j * size)) (take-put_mid_below (i * size) (i * size + size - i * size) w ys (j * size + size) (omega (arith, part_ends j i size l)) (omega arith))
       ∙ drop-take (j * size) size w
 
   -- and so do those after it
-  pub rest_kept : (old : List X) → drop (i * size) w ≡ drop (i * size) old → drop ((i + 1) * size) (put_mid start (end - start) w ys) ≡ drop ((i + 1) * size) old
+  pub rest_kept : (old : List X) → drop (i * size) w ≡ drop (i * size) old → drop ((i + 1) * size) (written size i w ys) ≡ drop ((i + 1) * size) old
   rest_kept old same =
       let next : (i + 1) * size ≡ i * size + size = add-mul i 1 size ∙ ap (λ x. i * size + x) (one-mul size) in
-      drop-put_mid start (end - start) w ys ((i + 1) * size) (omega (arith, next)) (omega arith) long
+      drop-put_mid (i * size) (i * size + size - i * size) w ys ((i + 1) * size) (omega (arith, next)) (omega arith) long
       ∙ ap (λ x. drop x w) next ∙ sym (drop-drop size (i * size) w) ∙ ap (drop size) same ∙ drop-drop size (i * size) old ∙ ap (λ x. drop x old) (sym next)
 
 count_push : {X : Type 0} (test : X → Bool) (xs : List X) (x : X) → count test (xs ++ (x ∷ [])) ≡ count test xs + cond (test x) 1 0
@@ -118,6 +111,7 @@ count_push test (y ∷ xs) x = omega (arith, count_push test xs x)
 
 -- The first i slots of x were taken after the first t: what follows them in the places is as it was.
 pub record Taking {S : Type 0} (K : Kind S) (p : Sheet) (t : ℕ) (before : Receiver S) (x : Slots S) (i : ℕ) (now : Receiver S) (handed : ℕ) : Type 0 where
+  pub fits : Enough p (room before) t (length x.states) (length x.packets) (length x.rows) (length x.marks)
   pub dues : List (Option Due)
   pub long : length dues ≡ i
   pub run : Run K before (map (call p x dues) (range_with_len 0 i)) now
@@ -133,109 +127,120 @@ one_at_most : (b : Bool) → cond b 1 0 ≤ 1
 one_at_most true = omega arith
 one_at_most false = omega arith
 
-pub taking_none : {S : Type 0} (K : Kind S) (before : Receiver S) (states : List SlotState) (packets rows : List S) (marks : List Mark) → need before.sheet ≤ room before → Taking K before.sheet before.counters.slots before (slots_of states packets rows rows marks marks) 0 before 0
-taking_none K before states packets rows marks wide = record {
+pub taking_none : {S : Type 0} (K : Kind S) (before : Receiver S) (states : List SlotState) (packets rows : List S) (marks : List Mark) →
+    slots_refused before.sheet (room before) before.counters.slots (length states) (length packets) (length rows) (length marks) ≡ None → Taking K before.sheet before.counters.slots before (slots_of states packets rows rows marks marks) 0 before 0
+taking_none K before states packets rows marks none = let fits = enough _ _ _ _ _ _ _ none in record {
+  fits = fits;
   dues = [];
   long = refl;
   run = stop;
   handed_is = refl;
   at_most = omega arith;
   sheet = refl;
-  wide = wide;
+  wide = fits.wide;
   slots = omega arith;
   rows = refl;
   marks = refl;
 }
 
-module _ {S : Type 0} (K : Kind S) (p : Sheet) (t : ℕ) (before now now' : Receiver S) (states : List SlotState) (packets rows rows' : List S) (marks marks' : List Mark) (w i handed : ℕ)
-    (within : i < length states) (fits : Enough p w t (length states) (length packets) (length rows) (length marks)) (few : t ≤ top_slots)
-    (rows_long : length rows' ≡ length rows) (marks-long : length marks' ≡ length marks)
-    (so_far : Taking K p t before (slots_of states packets rows rows' marks marks') i now handed) where
+module _ {S : Type 0} {K : Kind S} {p : Sheet} {t : ℕ} {before now : Receiver S} {states : List SlotState} {packets rows rows' : List S} {marks marks' : List Mark} {i handed : ℕ}
+    (so_far : Taking K p t before (slots_of states packets rows rows' marks marks') i now handed) (within : i < length states) (rows_long : length rows' ≡ length rows) (marks-long : length marks' ≡ length marks) where
   -- the next slot
-  module _ (start end from to : ℕ) (starts : start ≡ i * p.row) (ends : end ≡ start + p.row) (begins : from ≡ i * n p) (stops : to ≡ from + n p) (state : SlotState) (state-is : state ≡ get_or states i Arrived) (row : List S) (new : List Mark) (due : Option Due) where
+  module _ (size : ℕ) (its_size : size ≡ n p) (now' : Receiver S) (row : List S) (new : List Mark) where
+    abbrev state : SlotState
+    state = get_or states i Arrived
+
+    begins : i * size ≡ i * n p
+    begins = ap (λ x. i * x) its_size
+
     abbrev q : List S
-    q = take (to - from) (drop from packets)
+    q = cut size i packets
 
-    abbrev reply : Reply S
-    reply = replied (take (end - start) (drop start rows')) row (take (end - start) (drop start marks')) new (Ok due)
+    abbrev reply : Answer → Reply S
+    reply answer = replied (cut p.row i rows') row (cut p.row i marks') new answer
 
-    rows_end : end ≤ length rows'
-    rows_end = omega (arith, part_ends i (length states) p.row within, fits.row_places)
+    rows_end : i * p.row + p.row ≤ length rows'
+    rows_end = omega (arith, part_ends i (length states) p.row within, so_far.fits.row_places)
 
-    marks_end : end ≤ length marks'
-    marks_end = omega (arith, part_ends i (length states) p.row within, fits.mark_places)
+    marks_end : i * p.row + p.row ≤ length marks'
+    marks_end = omega (arith, part_ends i (length states) p.row within, so_far.fits.mark_places)
 
-    pub packet_long : length (take (to - from) (drop from packets)) ≡ n p
-    packet_long = length-take-le (to - from) (drop from packets) (omega (arith, length-drop from packets, part_ends i (length states) (n p) within, fits.all_packets)) ∙ (let e : to - from ≡ n p = omega arith in e)
+    packet_long : length (cut size i packets) ≡ n p
+    packet_long = cut_long size i packets (omega (arith, begins, its_size, part_ends i (length states) (n p) within, so_far.fits.all_packets)) ∙ its_size
 
-    pub row_long : length (take (end - start) (drop start rows')) ≡ p.row
-    row_long = length-take-le (end - start) (drop start rows') (omega (arith, length-drop start rows', rows_end)) ∙ (let e : end - start ≡ p.row = omega arith in e)
+    row_long : length (cut p.row i rows') ≡ p.row
+    row_long = cut_long p.row i rows' (omega (arith, rows_end))
 
-    pub mark_long : length (take (end - start) (drop start marks')) ≡ p.row
-    mark_long = length-take-le (end - start) (drop start marks') (omega (arith, length-drop start marks', marks_end)) ∙ (let e : end - start ≡ p.row = omega arith in e)
+    mark_long : length (cut p.row i marks') ≡ p.row
+    mark_long = cut_long p.row i marks' (omega (arith, marks_end))
 
     pub now_wide : need now.sheet ≤ room now
     now_wide = subst (λ (x : Sheet). need x ≤ room now) (sym so_far.sheet) so_far.wide
 
     pub now_few : now.counters.slots < top_slots
-    now_few = omega (arith, so_far.slots, fits.few)
+    now_few = omega (arith, so_far.slots, so_far.fits.few)
 
     its_sheet : (m : Sheet → ℕ) (l : ℕ) → l ≡ m p → l ≡ m now.sheet
     its_sheet m l e = e ∙ sym (ap m so_far.sheet)
 
-    taken : SlotCall K now now' (arrival state (take (to - from) (drop from packets))) reply → Taken K now.sheet now.counters.slots now now' (arrival state (take (to - from) (drop from packets))) reply
-    taken called = took K now now' state q reply now_wide now_few (its_sheet n _ packet_long) (its_sheet (λ x. x.row) _ row_long) (its_sheet (λ x. x.row) _ mark_long) called
+    -- is not refused
+    taken : (answer : Answer) → SlotCall K now now' (arrival state q) (reply answer) → Taken K now.sheet now.counters.slots now now' (arrival state q) (reply answer)
+    taken answer =
+        subst (λ (d : Option SlotRefusal). SlotWith K d now.sheet now.counters.slots now now' (arrival state q) (reply answer))
+        (accepts now.sheet (room now) now.counters.slots (unfit now.sheet (arrival state q)) _ _ now_wide now_few (arrival_fits now.sheet state q (its_sheet n _ packet_long)) (its_sheet (λ x. x.row) _ row_long) (its_sheet (λ x. x.row) _ mark_long))
 
-    pub taking_never : (e : SlotRefusal) → SlotCall K now now' (arrival state (take (to - from) (drop from packets))) (replied (take (end - start) (drop start rows')) row (take (end - start) (drop start marks')) new (Err e)) → ⊥
+    pub taking_never : (e : SlotRefusal) → SlotCall K now now' (arrival state q) (reply (Err e)) → ⊥
     taking_never e called =
-        never_refused K now now' state q (replied (take (end - start) (drop start rows')) row (take (end - start) (drop start marks')) new (Err e))
-        now_wide now_few (its_sheet n _ packet_long) (its_sheet (λ x. x.row) _ row_long) (its_sheet (λ x. x.row) _ mark_long) e called refl
+        let ok = hands_ok K now.sheet (memory K now') now.counters.slots (reply (Err e)) (taken (Err e) called).hands in
+        let both : ◌≡◌ {A = Answer} (Err e) (Ok ok.0) = ok.1 in
+        cc both
 
-    pub taking_more : (handed' : ℕ) → length row ≡ p.row → length new ≡ p.row → SlotCall K now now' (arrival state (take (to - from) (drop from packets))) reply → handed' ≡ handed + cond (is_some due) 1 0 →
-        Taking K p t before (slots_of states packets rows (put_mid start (end - start) rows' row) marks (put_mid start (end - start) marks' new)) (i + 1) now' handed'
-    taking_more handed' row_fits new-fits called counts =
+    pub taking_more : (due : Option Due) (handed' : ℕ) → length row ≡ length (cut p.row i rows') → length new ≡ length (cut p.row i marks') → SlotCall K now now' (arrival state q) (reply (Ok due)) → handed' ≡ handed + cond (is_some due) 1 0 →
+        Taking K p t before (slots_of states packets rows (written p.row i rows' row) marks (written p.row i marks' new)) (i + 1) now' handed'
+    taking_more due handed' row_fits new-fits called counts =
         let x : Slots S = slots_of states packets rows rows' marks marks' in
-        let y : Slots S = slots_of states packets rows (put_mid start (end - start) rows' row) marks (put_mid start (end - start) marks' new) in
+        let y : Slots S = slots_of states packets rows (written p.row i rows' row) marks (written p.row i marks' new) in
         let dues : List (Option Due) = so_far.dues ++ (due ∷ []) in
-        let done = taken called in
-        let wrote : length row ≡ end - start = omega arith in
-        let noted : length new ≡ end - start = omega arith in
-        let width : end - start ≡ p.row = omega arith in
-        let earlier : map (call p (slots_of states packets rows rows' marks marks') so_far.dues) (range_with_len 0 i) ≡ map (call p (slots_of states packets rows (put_mid start (end - start) rows' row) marks (put_mid start (end - start) marks' new)) (so_far.dues ++ (due ∷ []))) (range_with_len 0 i) =
+        let done = taken (Ok due) called in
+        let wrote : length row ≡ i * p.row + p.row - i * p.row = omega (arith, row_long) in
+        let noted : length new ≡ i * p.row + p.row - i * p.row = omega (arith, mark_long) in
+        let width : i * p.row + p.row - i * p.row ≡ p.row = omega arith in
+        let earlier : map (call p (slots_of states packets rows rows' marks marks') so_far.dues) (range_with_len 0 i) ≡ map (call p (slots_of states packets rows (written p.row i rows' row) marks (written p.row i marks' new)) (so_far.dues ++ (due ∷ []))) (range_with_len 0 i) =
         map_same _ _ i (tally (tally_of 0 0 0 0)) (λ j l. λ k.
         slot (arrival (get_or states j Arrived) (part (n p) packets j))
-        (replied (part p.row rows j) (sym (part_kept p.row i rows' row start end starts ends rows_end wrote j l) k)
-        (part p.row marks j) (sym (part_kept p.row i marks' new start end starts ends marks_end noted j l) k)
+        (replied (part p.row rows j) (sym (part_kept p.row i rows' row rows_end wrote j l) k)
+        (part p.row marks j) (sym (part_kept p.row i marks' new marks_end noted j l) k)
         (Ok (sym (get_or_append_left so_far.dues (due ∷ []) None j (omega (arith, so_far.long))) k)))) in
-        let latest : slot (arrival state (take (to - from) (drop from packets))) reply ≡ call p (slots_of states packets rows (put_mid start (end - start) rows' row) marks (put_mid start (end - start) marks' new)) (so_far.dues ++ (due ∷ [])) i =
-        λ k. slot (arrival (state-is k) (take (packet_width k) (drop (begins k) packets)))
-        (replied (old_rows width k) (sym (part_new p.row i rows' row start end starts ends rows_end wrote) k)
-        (old_marks width k) (sym (part_new p.row i marks' new start end starts ends marks_end noted) k)
+        let latest : slot (arrival state q) (reply (Ok due)) ≡ call p (slots_of states packets rows (written p.row i rows' row) marks (written p.row i marks' new)) (so_far.dues ++ (due ∷ [])) i =
+        λ k. slot (arrival state (take (packet_width k) (drop (begins k) packets)))
+        (replied (old_rows width k) (sym (part_new p.row i rows' row rows_end wrote) k)
+        (old_marks width k) (sym (part_new p.row i marks' new marks_end noted) k)
         (Ok (sym (get_or_push so_far.dues due None i so_far.long) k))) in
         let one = one_at_most (is_some due) in
         record {
+          fits = so_far.fits;
           dues = so_far.dues ++ (due ∷ []);
           long = length-append so_far.dues (due ∷ []) ∙ ap (λ m. m + 1) so_far.long;
           run = subst (λ (es : List (Event S)). Run K before es now')
               (ap₂ (λ es e. es ++ (e ∷ [])) earlier latest ∙ sym (map-range_with_len_more (call p y dues) 0 i i (omega arith)))
-              (run_more K (map (call p x so_far.dues) (range_with_len 0 i)) (arrival state q) reply so_far.run called);
+              (run_more K (map (call p x so_far.dues) (range_with_len 0 i)) (arrival state q) (reply (Ok due)) so_far.run called);
           handed_is = counts ∙ ap (λ m. m + cond (is_some due) 1 0) so_far.handed_is ∙ sym (count_push is_some so_far.dues due);
           at_most = omega (arith, so_far.at_most);
           sheet = done.sheet ∙ so_far.sheet;
           wide = omega (arith, so_far.wide, room_stays now.line now'.line done.stays);
           slots = omega (arith, done.slots, so_far.slots);
-          rows = rest_kept p.row i rows' row start end starts ends rows_end wrote rows so_far.rows;
-          marks = rest_kept p.row i marks' new start end starts ends marks_end noted marks so_far.marks;
+          rows = rest_kept p.row i rows' row rows_end wrote rows so_far.rows;
+          marks = rest_kept p.row i marks' new marks_end noted marks so_far.marks;
         }
       where
-        packet_width : to - from ≡ n p
+        packet_width : i * size + size - i * size ≡ n p
         packet_width = omega arith
 
-        old_rows : end - start ≡ p.row → take (end - start) (drop start rows') ≡ part p.row rows i
-        old_rows width = ap₂ (λ a b. take a (drop b rows')) width starts ∙ ap (take p.row) so_far.rows
+        old_rows : i * p.row + p.row - i * p.row ≡ p.row → cut p.row i rows' ≡ part p.row rows i
+        old_rows width = ap (λ a. take a (drop (i * p.row) rows')) width ∙ ap (take p.row) so_far.rows
 
-        old_marks : end - start ≡ p.row → take (end - start) (drop start marks') ≡ part p.row marks i
-        old_marks width = ap₂ (λ a b. take a (drop b marks')) width starts ∙ ap (take p.row) so_far.marks
+        old_marks : i * p.row + p.row - i * p.row ≡ p.row → cut p.row i marks' ≡ part p.row marks i
+        old_marks width = ap (λ a. take a (drop (i * p.row) marks')) width ∙ ap (take p.row) so_far.marks
 
 module _ {S : Type 0} (p : Sheet) (x : Slots S) (dues : List (Option Due)) where
   abbrev came_at : ℕ → Option (List S)

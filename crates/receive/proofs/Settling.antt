@@ -1,23 +1,25 @@
 -- A missed block, from the parity symbols of its carrying slot and what that slot carries beside it. Assumes nothing.
-use Rattle.std.proofs.Common.{◌≡◌, ℕ, zero, suc, ◌+◌, ◌-◌, ◌*◌, ◌/◌, ◌<◌, Bool, true, false, cond, ◌&&◌, List, map, length, get_or, replicate, sym, refl, ap, ◌∙◌, ap₂, inl, inr, arith}
+use Rattle.std.proofs.Common.{◌≡◌, ℕ, zero, suc, ◌+◌, ◌-◌, ◌*◌, ◌<◌, Bool, true, false, cond, ◌&&◌, List, map, length, get_or, replicate, sym, refl, ap, ◌∙◌, ap₂, inl, inr, arith}
 use Rattle.std.specs.List.{range_with_len}
 use Rattle.std.proofs.lemmas.List.{length-replicate, get_or-replicate}
 use Rattle.std.proofs.lemmas.List.FromFn.{length-map-range_with_len, get_or-map-range_with_len, fill_by_all}
 use Rattle.std.proofs.lemmas.Bool.{cases_Bool, and_left, cond-true, cond-false}
 use Rattle.kinds.specs.Kind.{Kind}
 use Rattle.kinds.proofs.Lists.{map_same}
+use Rattle.code.specs.declared.block.Block.{Block}
 use Rattle.code.specs.declared.mark.Mark.{Mark}
 use Rattle.code.specs.declared.mark.Mark.TheVariants.{Arrived, Mended, Lost}
 use Rattle.code.specs.declared.sheet.Sheet.{Sheet}
 use Rattle.code.specs.Sheets.{n, column, carrier}
 use Rattle.code.specs.Mending.{History, heard, got, beside, all_known, mends, mended, mark, given, marks_of, row_of}
 use Rattle.code.proofs.Carrying.{gathered}
-use Rattle.code.proofs.Pieces.{Begins, block-lag, block-column}
+use Rattle.code.proofs.Pieces.{Begins, block_begins, block_carried, block-lag, block-column}
 use Rattle.line.specs.Ring.{stretch}
+use Rattle.line.specs.Line.{contents}
 use Rattle.receive.specs.declared.due.Verdict.{Verdict}
-use Rattle.receive.specs.declared.table.SlotState.{SlotState}
-use Rattle.receive.specs.Memory.{recalled}
-use Rattle.receive.proofs.Reading.{got_back}
+use Rattle.receive.specs.declared.receiver.Receiver.{Receiver}
+use Rattle.receive.specs.Memory.{memory}
+use Rattle.receive.proofs.Reading.{read_back}
 use Rattle.code.specs.Blocks.{size}
 use Rattle.receive.specs.Blocks.{of_block, sums_beside, known_beside, settled}
 use Rattle.receive.specs.Handing.{verdict, count, first, judged, is_mended, is_lost}
@@ -27,9 +29,18 @@ pub filled_with : {X : Type 0} (f : ℕ → X) (x : X) (m n : ℕ) → m ≡ n �
 filled_with f x m n e h =
     fill_by_all f (replicate m x) n x (length-replicate m x ∙ e) (λ i l. get_or-replicate m i x x (omega arith) ∙ h i l)
 
-module _ {S : Type 0} (K : Kind S) (p : Sheet) (h : History S) (j from since : ℕ) (begins : Begins p from) (is : since ≡ (1 + from / p.parity) * p.burst) (missed : heard h j ≡ false) where
+module _ {S : Type 0} (K : Kind S) {p : Sheet} (h : History S) (j : ℕ) (b : Block) (on : b.sheet ≡ p) (missed : heard h j ≡ false) where
+  abbrev from : ℕ
+  from = b.first
+
+  abbrev since : ℕ
+  since = b.lag
+
+  begins : Begins p from
+  begins = block_begins b on
+
   carried_by : (i : ℕ) → i < size p from → carrier p j (from + i) ≡ j + since
-  carried_by i l = ap (λ x. j + x) (block-lag p from begins (from + i) (omega arith) (omega arith) ∙ sym is)
+  carried_by i l = ap (λ x. j + x) (block-lag p from begins (from + i) (omega arith) (omega arith) ∙ sym (block_carried b on))
 
   -- the carrying slot was missed
   module _ (silent : heard h (j + since) ≡ false) where
@@ -100,7 +111,7 @@ whole_verdict marks m e =
 pub arrived_marks : (p : Sheet) (arrived : ℕ → Bool) (j : ℕ) → arrived j ≡ true → (m : ℕ) → m ≡ p.row → replicate m Arrived ≡ marks_of p arrived j
 arrived_marks p arrived j came m e = filled_with (mark p arrived j) Arrived m p.row e (λ i l. sym (cond-true _ _ _ came))
 
-pub arrived_row : {S : Type 0} (K : Kind S) (p : Sheet) (t : ℕ) (states : List SlotState) (held : List S) (j : ℕ) → heard (recalled K p t states held) j ≡ true → (steps m : ℕ) → steps ≡ (t - j) * n p - 0 → m ≡ p.row → stretch K.zero held steps m ≡ row_of K p (recalled K p t states held) j
-arrived_row K p t states held j came steps m at e =
-    ap₂ (λ a b. stretch K.zero held a b) (at ∙ (let x : (t - j) * n p - 0 ≡ (t - j) * n p = omega arith in x)) e
-    ∙ map_same _ _ p.row K.zero (λ i l. sym (cond-true _ _ _ came ∙ got_back K p t states held j i came (omega arith)))
+pub arrived_row : {S : Type 0} (K : Kind S) (r : Receiver S) (j : ℕ) → heard (memory K r) j ≡ true → (steps m : ℕ) → steps ≡ (r.counters.slots - j) * n r.sheet - 0 → m ≡ r.sheet.row → stretch K.zero (contents r.line) steps m ≡ row_of K r.sheet (memory K r) j
+arrived_row K r j came steps m at e =
+    ap (stretch K.zero (contents r.line) steps) e
+    ∙ map_same _ _ r.sheet.row K.zero (λ i l. read_back K r j 0 steps i i came at (omega arith) (omega arith) ∙ sym (cond-true _ _ _ came))

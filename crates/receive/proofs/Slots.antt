@@ -51,15 +51,6 @@ accepted p w t bad symbols marks none =
       mark_place = eqb-true marks p.row (not-false _ e.1);
     }
 
--- a slot went into the table and the line
-pub record Stored {S : Type 0} (before mid : Receiver S) (came : Option (List S)) (q : List S) : Type 0 where
-  pub sheet : mid.sheet ≡ before.sheet
-  pub counters : mid.counters ≡ before.counters
-  pub table : mid.table.states ≡ set before.table.states (before.counters.slots % 512) (state_of came)
-  pub full : length mid.table.states ≡ 512
-  pub line : contents mid.line ≡ entered q (contents before.line)
-  pub stays : Stays before.line mid.line
-
 memory_is : {S : Type 0} (K : Kind S) (r : Receiver S) (p : Sheet) (t : ℕ) (states : List SlotState) (held : List S) → r.sheet ≡ p → r.counters.slots ≡ t → r.table.states ≡ states → contents r.line ≡ held → memory K r ≡ recalled K p t states held
 memory_is K r p t states held a b c d =
     ap (λ (x : Sheet). recalled K x r.counters.slots r.table.states (contents r.line)) a
@@ -80,27 +71,31 @@ hands_late K p h h' t i row row' marks marks' v same old at row_is marks-are jud
           };
     })
 
-module _ {S : Type 0} (K : Kind S) (before mid after : Receiver S) (came : Option (List S)) (q row row' : List S) (marks marks' : List Mark) (due : Option Due) where
-  pub slot_call : slot_refused before.sheet (room before) before.counters.slots (unfit before.sheet came) (length row) (length marks) ≡ None → length q ≡ n before.sheet → StandsFor came q → Stored before mid came q → HandsOut K mid after row row' marks marks' due → SlotCall K before after came (replied row row' marks marks' (Ok due))
-  slot_call none fits is st out =
+-- a slot goes into the table and the line, and then what falls due is handed out
+module _ {S : Type 0} {K : Kind S} (before : Receiver S) {mid after : Receiver S} (came : Option (List S)) (q : List S) {row row' : List S} {marks marks' : List Mark} {due : Option Due}
+    (none : slot_refused before.sheet (room before) before.counters.slots (unfit before.sheet came) (length row) (length marks) ≡ None) (fits : length q ≡ n before.sheet) (is : StandsFor came q)
+    (sheet : mid.sheet ≡ before.sheet) (counters : mid.counters ≡ before.counters) (table : mid.table.states ≡ set before.table.states (before.counters.slots % 512) (state_of came)) (whole : length mid.table.states ≡ 512)
+    (line : contents mid.line ≡ entered q (contents before.line)) (stays : Stays before.line mid.line) (out : HandsOut K mid after row row' marks marks' due) where
+  pub slot_call : SlotCall K before after came (replied row row' marks marks' (Ok due))
+  slot_call =
       let p : Sheet = before.sheet in
       let t : ℕ = before.counters.slots in
       let states : List SlotState = before.table.states in
       let held : List S = contents before.line in
       let roomy : need p ≤ length held = (accepted p (room before) t (unfit p came) (length row) (length marks) none).wide in
-      let slots-are : mid.counters.slots ≡ before.counters.slots = ap (λ x. x.slots) st.counters in
-      let full : length states ≡ 512 = sym (length-set states (t % 512) (state_of came)) ∙ sym (ap length st.table) ∙ st.full in
-      let line-is : contents after.line ≡ entered q held = ap contents out.line ∙ st.line in
-      let now-is : memory K after ≡ recalled K p (t + 1) (set states (t % 512) (state_of came)) (entered q held) = memory_is K after p (t + 1) _ _ (out.sheet ∙ st.sheet) (out.slots ∙ ap (λ i. i + 1) slots-are) (out.table ∙ st.table) line-is in
+      let slots-are : mid.counters.slots ≡ before.counters.slots = ap (λ x. x.slots) counters in
+      let full : length states ≡ 512 = sym (length-set states (t % 512) (state_of came)) ∙ sym (ap length table) ∙ whole in
+      let line-is : contents after.line ≡ entered q held = ap contents out.line ∙ line in
+      let now-is : memory K after ≡ recalled K p (t + 1) (set states (t % 512) (state_of came)) (entered q held) = memory_is K after p (t + 1) _ _ (out.sheet ∙ sheet) (out.slots ∙ ap (λ i. i + 1) slots-are) (out.table ∙ table) line-is in
       let done : Taken K p t before after came (replied row row' marks marks' (Ok due)) = record {
-        sheet = out.sheet ∙ st.sheet;
+        sheet = out.sheet ∙ sheet;
         slots = out.slots ∙ ap (λ i. i + 1) slots-are;
         latest = ap (λ (h : History S). h t) now-is ∙ recall_latest K p t states held q full roomy fits came is;
         earlier = λ s low high. ap (λ (h : History S). h s) now-is ∙ recall_earlier K p t states held q full roomy fits (state_of came) s low high;
-        hands = subst (λ (x : Sheet). Hands K x (memory K after) t (replied row row' marks marks' (Ok due))) st.sheet (subst (λ (i : ℕ). Hands K mid.sheet (memory K after) i (replied row row' marks marks' (Ok due))) slots-are out.hands);
-        whole = out.whole ∙ ap (λ x. x.whole + one whole_row (Ok due)) st.counters;
-        mended = out.mended ∙ ap (λ x. x.mended + one mended_row (Ok due)) st.counters;
-        lost = out.lost ∙ ap (λ x. x.lost + one lost_row (Ok due)) st.counters;
-        stays = subst (λ (l : _). Stays before.line l) (sym out.line) st.stays;
+        hands = subst (λ (x : Sheet). Hands K x (memory K after) t (replied row row' marks marks' (Ok due))) sheet (subst (λ (i : ℕ). Hands K mid.sheet (memory K after) i (replied row row' marks marks' (Ok due))) slots-are out.hands);
+        whole = out.whole ∙ ap (λ x. x.whole + one whole_row (Ok due)) counters;
+        mended = out.mended ∙ ap (λ x. x.mended + one mended_row (Ok due)) counters;
+        lost = out.lost ∙ ap (λ x. x.lost + one lost_row (Ok due)) counters;
+        stays = subst (λ (l : _). Stays before.line l) (sym out.line) stays;
       } in
       subst (λ (d : Option SlotRefusal). SlotWith K d p t before after came (replied row row' marks marks' (Ok due))) (sym none) done

@@ -34,6 +34,7 @@ impl<'w, S: Symbol> Receiver<'w, S> {
 
     // Takes as many slots as there are states, each with its part of the packets (that of a missed slot is not looked at), and
     // with its part of the rows and of the marks as places; answers how many rows fell due.
+    #[tactic(auto, using(crate::proofs::Driving::part_ends))]
     pub fn take_slots(
         &mut self,
         states: &[SlotState],

@@ -80,6 +80,7 @@ impl<'w, S: Symbol> Receiver<'w, S> {
 
     // Takes in another block, beside one that slot `carrier` carries: adds its symbols to the sums, or gives up what it has a
     // part in where its row was missed.
+    #[tactic(auto, using(crate::proofs::Beside::block_long))]
     fn take_in(
         &self,
         carrier: u32,
