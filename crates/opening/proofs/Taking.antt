@@ -1,8 +1,8 @@
 -- What a line does to a run after its header, at either end. Assumes nothing.
-use Rattle.std.proofs.Common.{◌≡◌, ℕ, ◌+◌, ◌≤◌, Bool, true, false, List, [], ◌∷◌, ◌++◌, length, Ok, Err, vec_items, Result, sym, refl, ap, ◌∙◌, subst, arith}
+use Rattle.std.proofs.Common.{◌≡◌, ℕ, ◌+◌, ◌≤◌, Bool, true, false, List, [], ◌∷◌, ◌++◌, length, drop, Ok, Err, vec_items, Result, sym, refl, ap, ◌∙◌, subst, arith}
 use Rattle.std.specs.Vec.{with_items}
 use Rattle.std.specs.declared.vec.Vec.{Vec}
-use Rattle.std.proofs.lemmas.List.{append-nil, with_items_is}
+use Rattle.std.proofs.lemmas.List.{append-nil, drop_all, with_items_is}
 use Rattle.lines.specs.declared.header.Header.{Header}
 use Rattle.lines.specs.Writing.{fault_refused}
 use Rattle.text.specs.declared.fault.LineFault.{LineFault}
@@ -10,6 +10,7 @@ use Rattle.text.specs.declared.fault.RunFault.{RunFault}
 use Rattle.text.specs.declared.fault.RunFault.TheVariants as run
 use Rattle.text.specs.Faults.{line_position, run_line, run_number, run_position}
 use Rattle.text.specs.Reading.{and_then}
+use Rattle.stream.specs.Lines.{lines_of}
 use Rattle.stream.specs.Running.{Taken, Took, Refused}
 use Rattle.runs.specs.declared.standing.Standing.{Standing}
 use Rattle.runs.specs.declared.standing.Standing.TheVariants.{BeforeHeader, InRun, Stopped}
@@ -21,6 +22,11 @@ use Rattle.runs.proofs.Positions.{Within, line_printed}
 -- what is printed of a fault
 abbrev pub fault_printed : RunFault → List ℕ
 fault_printed f = unless (fault_refused (run_line f) (run_number f) (run_position f) 18) (fault_text f)
+
+-- a line leads to the same where what follows it does
+pub after_alike : {X : Type 0} (t : ℕ) (r : Result X LineFault) (f g : X → List ℕ) → ((x : X) → f x ≡ g x) → after_line t r f ≡ after_line t r g
+after_alike t (Ok x) f g same = same x
+after_alike t (Err e) f g same = refl
 
 -- what a reader answers, and what it leaves in the place for the symbols of a line
 module _ {S L : Type 0} (read : Standing → ℕ → List ℕ → Result (Given L) RunFault) (place : Standing → List ℕ → List S → List S) (s s' : Standing) (line : List ℕ)
@@ -51,6 +57,8 @@ module _ {R X : Type 0} where
     pub waits : stopped_at BeforeHeader ≡ true
     pub stops : (f : RunFault) → stopped_at (Stopped f) ≡ true
     pub sound : (f : RunFault) (r : R) → SoundAt (Stopped f) r
+    pub goes : (header : Header) (t : ℕ) → stopped_at (InRun header t) ≡ false
+    pub unbegun : (r : R) (lines : List (List ℕ)) → rest_at BeforeHeader r lines ≡ []
     pub silent : (f : RunFault) (r : R) (lines : List (List ℕ)) → rest_at (Stopped f) r lines ≡ []
     pub prints : (header : Header) (t : ℕ) (r : R) (line : List ℕ) (lines : List (List ℕ)) →
         rest_at (InRun header t) r (line ∷ lines) ≡ after_line t (and_then (read r t line) (more r t)) (follows r t lines)
@@ -80,6 +88,15 @@ module _ {R X : Type 0} {standing : R → Standing} {rest_at : Standing → R �
     took_in before after line out out' counted takes sane going =
         let at = standing_in (standing before) going in
         takes at.0 at.1 at.2 (subst (λ (s : Standing). SoundAt s before) at.2 sane) (subst (λ (s : Standing). Counted s) at.2 counted)
+
+    -- a stopped run prints nothing more, and another has taken all lines of a text
+    pub none_left : (r : R) (text : List ℕ) (used : ℕ) → (stopped r ≡ false → used ≡ length text) → rest r [] ≡ rest r (lines_of (drop used text))
+    none_left r text used = from (standing r)
+      where
+        from : (s : Standing) → (stopped_at s ≡ false → used ≡ length text) → rest_at s r [] ≡ rest_at s r (lines_of (drop used text))
+        from BeforeHeader all = running.unbegun r [] ∙ sym (running.unbegun r (lines_of (drop used text)))
+        from (InRun header t) all = ap (λ more. rest_at (InRun header t) r (lines_of more)) (sym (drop_all used text (omega (arith, all (running.goes header t)))))
+        from (Stopped f) all = running.silent f r [] ∙ sym (running.silent f r (lines_of (drop used text)))
 
     -- a line that is refused before it has ended
     pub refused_alike : (r : R) (begun : List ℕ) (e : LineFault) → ((t : ℕ) (line rest : List ℕ) → line ≡ begun ++ rest → read r t line ≡ Err e) →

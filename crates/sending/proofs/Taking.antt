@@ -24,12 +24,12 @@ use Rattle.opening.proofs.Taking.{Heard, Running, fault_printed, took_in, refuse
 use Rattle.text.specs.declared.fault.LineFault.{LineFault}
 use Rattle.text.specs.declared.fault.LineFault.TheVariants as fault
 use Rattle.text.specs.declared.fault.RunFault.{RunFault}
-use Rattle.text.specs.Reading.{and_then, begins, fitting, row_into, symbols_or}
+use Rattle.text.specs.Reading.{and_then, fitting, row_into, symbols_or}
 use Rattle.runs.specs.declared.standing.Standing.TheVariants.{InRun}
 use Rattle.runs.specs.declared.standing.SendLine.{SendLine}
 use Rattle.runs.specs.declared.standing.SendLine.TheVariants as send
 use Rattle.runs.specs.Whole.{unless}
-use Rattle.runs.proofs.Early.{begins_more, begins_with, longer, too_long}
+use Rattle.runs.proofs.Early.{too_long}
 use Rattle.runs.proofs.Positions.{row_within}
 use Rattle.runs.specs.Runs.{numbered_as, answer_of, standing_of, Given, send_read, send_place}
 use Rattle.sending.specs.declared.run.SendRun.{SendRun}
@@ -85,16 +85,14 @@ module _ {S : Type 0} (K : Kind S) (F : Form S) where
       let rows = with_row K (kept K r.sheet t r.sender.line) t row in
       slot_text K F r.sheet rows t ++ rows_text K F r.sheet (lent_to r) rows (t + 1) lines
 
-  running : Running (λ (r : SendRun S). r.reader.standing) (rest_at K F) SoundAt stopped_at row_of_line row_put row_follows
-  running = record { waits = refl; stops = λ f. refl; sound = λ f r. tt; silent = λ f r lines. refl; prints = λ header t r line lines. refl }
+  pub running : Running (λ (r : SendRun S). r.reader.standing) (rest_at K F) SoundAt stopped_at row_of_line row_put row_follows
+  running = record { waits = refl; stops = λ f. refl; sound = λ f r. tt; goes = λ header t. refl; unbegun = λ r lines. refl; silent = λ f r lines. refl; prints = λ header t r line lines. refl }
 
   -- a row's line with more than its symbols
-  pub refused_length : (r : SendRun S) (begun : List ℕ) → 0 < length begun → get_or begun 0 0 ≡ 82 → 9 + r.sheet.row * F.layout.width < length begun →
+  pub refused_length : (r : SendRun S) (begun : List ℕ) → get_or begun 0 0 ≡ 82 → 9 + r.sheet.row * F.layout.width < length begun →
       Refused (rest_of K F) Sound stopped r begun
-  refused_length r begun some is l = refused_alike running r begun fault.Length (λ t line more e.
-      ap (fitting (fault.Put put.Place) (lent_to r).row)
-      (too_long F 82 r.sheet.row t line (ap (begins 82) e ∙ begins_more 82 begun more some ∙ begins_with 82 begun some is)
-      (subst (λ (x : List ℕ). 9 + r.sheet.row * F.layout.width < length x) (sym e) (longer begun more (9 + r.sheet.row * F.layout.width) l))))
+  refused_length r begun is l = refused_alike running r begun fault.Length (λ t line more e.
+      ap (fitting (fault.Put put.Place) (lent_to r).row) (too_long F 82 r.sheet.row t line begun more (omega arith) e is l))
 
 module _ {S : Type 0} (K : Kind S) (F : Form S) (before mid after : SendRun S) (line out out' : List ℕ) (answer : Result SendLine RunFault)
     (sheet-is : mid.sheet ≡ before.sheet) (sender-is : mid.sender ≡ before.sender) (packet_is : vec_items mid.packet ≡ vec_items before.packet)
