@@ -1,5 +1,5 @@
 -- What is printed turns only on the slots that a receiver remembers. Assumes nothing.
-use Rattle.std.proofs.Common.{◌≡◌, ℕ, ◌+◌, ◌-◌, ◌*◌, ◌≤◌, ltb, leb, List, [], ◌∷◌, ◌++◌, None, Ok, Err, Option, Result, sym, refl, ap, ◌∙◌, ap₂, inl, inr, arith}
+use Rattle.std.proofs.Common.{◌≡◌, ℕ, ◌+◌, ◌-◌, ◌*◌, ◌≤◌, ltb, leb, List, [], ◌∷◌, ◌++◌, None, Option, sym, refl, ap, ◌∙◌, ap₂, inl, inr, arith}
 use Rattle.std.proofs.lemmas.Bool.{cases_eq, cases_lt, cond-true, cond-false, eq-eqb, ne_eqb, lt-ltb, le-ltb, and_left}
 use Rattle.kinds.specs.Kind.{Kind}
 use Rattle.kinds.specs.Form.{Form}
@@ -15,8 +15,7 @@ use Rattle.receive.specs.Memory.{memory}
 use Rattle.receive.specs.Handing.{Reply, verdict}
 use Rattle.receive.specs.Calls as calls
 use Rattle.lines.specs.Lines.{ended, due_line}
-use Rattle.text.specs.declared.fault.LineFault.{LineFault}
-use Rattle.runs.specs.Whole.{after_line}
+use Rattle.opening.proofs.Taking.{after_alike}
 use Rattle.mending.specs.Printing.{Lent, with_slot, one_row, slot_text, counted, slot_taken, slots_text}
 
 -- two histories that a receiver cannot tell apart after t slots
@@ -79,10 +78,6 @@ module _ {S : Type 0} (K : Kind S) (F : Form S) (p : Sheet) where
         cond-false _ _ _ (le-ltb t (T p) l) ∙ ap (λ marks. one_row (verdict marks) told) (marks_alike K p (t - T p) h g (seen t h g l same))
         ∙ sym (cond-false _ _ _ (le-ltb t (T p) l))
   ]
-
-  pub after_alike : {X : Type 0} (t : ℕ) (r : Result X LineFault) (f g : X → List ℕ) → ((x : X) → f x ≡ g x) → after_line t r f ≡ after_line t r g
-  after_alike t (Ok x) f g same = same x
-  after_alike t (Err e) f g same = refl
 
   module _ (lent : Lent) where
     -- what follows slot t, by what is remembered with it

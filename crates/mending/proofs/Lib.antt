@@ -2,5 +2,4 @@ pub mod Alike
 pub mod Reading
 pub mod Handed
 pub mod Taking
-pub mod Refusing
 pub mod Whole

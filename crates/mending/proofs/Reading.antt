@@ -11,7 +11,6 @@ use Rattle.receive.specs.Refusing.{unfit}
 use Rattle.text.specs.declared.fault.LineFault.{LineFault}
 use Rattle.text.specs.declared.fault.LineFault.TheVariants as fault
 use Rattle.text.specs.declared.fault.RunFault.{RunFault}
-use Rattle.text.specs.declared.fault.RunFault.TheVariants as run
 use Rattle.text.specs.Reading.{and_then, begins, fitting, packet_into, packet_read, missed_read}
 use Rattle.text.proofs.Inverses.{no_ok, then_ok, cond_ok, symbols_parts}
 use Rattle.text.proofs.Symbols.{length_read}
@@ -96,12 +95,6 @@ module _ {S : Type 0} (header : Header) (t : ℕ) where
   read_missed number (Ok (Some packet)) is = let z : ◌≡◌ {A = ℕ} 0 1 = cc in absurd (omega arith)
   read_missed number (Ok None) is = refl
   read_missed number (Err e) is = let z : ◌≡◌ {A = ℕ} 0 1 = cc in absurd (omega arith)
-
-  -- a line that was refused
-  pub read_err : (f : RunFault) (read : Result (Option (List S)) LineFault) → Err f ≡ answer_of (given_slot header t read) →
-      (e : LineFault) × (read ≡ Err e) × (f ≡ run.Line (t + 2) e)
-  read_err f (Ok came) is = let z : ◌≡◌ {A = ℕ} 0 1 = cc in absurd (omega arith)
-  read_err f (Err e) is = (e, refl, cc)
 
 module _ {S : Type 0} (K : Kind S) (F : Form S) (p : Sheet) (lent : Lent) (t : ℕ) (line : List ℕ) where
   -- a packet that was read is that of the line ..

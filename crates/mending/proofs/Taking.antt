@@ -1,9 +1,12 @@
 -- A mending run takes a line. Assumes nothing.
-use Rattle.std.proofs.Common.{◌≡◌, ℕ, ◌+◌, ◌≤◌, false, List, ◌∷◌, ◌++◌, length, Some, None, Ok, Err, vec_items, Option, Result, sym, refl, ap, ◌∙◌, subst, ap₂, arith}
-use Rattle.std.proofs.lemmas.List.{append-nil, append_assoc}
+use Rattle.std.proofs.Common.{◌≡◌, ℕ, ◌+◌, ◌*◌, ◌<◌, ◌≤◌, get_or, false, List, ◌++◌, length, Some, None, Ok, Err, vec_items, Option, Result, sym, refl, ap, ◌∙◌, subst, ap₂, arith}
+use Rattle.std.proofs.lemmas.Bool.{cond-true, cond-false}
+use Rattle.std.proofs.lemmas.List.{append_assoc}
 use Rattle.kinds.specs.Kind.{Kind}
 use Rattle.kinds.specs.Form.{Form}
 use Rattle.code.specs.declared.refusal.SlotRefusal.{SlotRefusal}
+use Rattle.code.specs.declared.refusal.SlotRefusal.TheVariants as slot
+use Rattle.code.specs.Sheets.{n}
 use Rattle.code.specs.declared.sheet.Sheet.{Sheet}
 use Rattle.code.specs.Mending.{History}
 use Rattle.line.proofs.Staying.{room_stays}
@@ -16,33 +19,23 @@ use Rattle.receive.specs.Calls.{room, SlotWith, SlotAt}
 use Rattle.receive.specs.Calls as calls
 use Rattle.receive.proofs.Slots.{accepted}
 use Rattle.lines.specs.declared.header.Header.{Header}
-use Rattle.lines.specs.Writing.{fault_refused}
 use Rattle.text.specs.declared.fault.LineFault.{LineFault}
 use Rattle.text.specs.declared.fault.LineFault.TheVariants as fault
 use Rattle.text.specs.declared.fault.RunFault.{RunFault}
-use Rattle.text.specs.declared.fault.RunFault.TheVariants as run
-use Rattle.text.specs.Faults.{line_position, run_line, run_number, run_position}
-use Rattle.text.specs.Reading.{and_then, packet_into, symbols_or}
-use Rattle.stream.specs.Running.{Taken, Took}
-use Rattle.runs.specs.declared.standing.Standing.{Standing}
-use Rattle.runs.specs.declared.standing.Standing.TheVariants.{BeforeHeader, InRun, Stopped}
+use Rattle.text.specs.Reading.{and_then, fitting, packet_into, symbols_or}
+use Rattle.stream.specs.Running.{Taken, Took, Refused}
+use Rattle.opening.proofs.Taking.{Heard, Running, fault_printed, took_in, refused_alike, took_fault, declined, goes_on}
+use Rattle.runs.specs.declared.standing.Standing.TheVariants.{InRun}
+use Rattle.runs.specs.declared.standing.MendLine.{MendLine}
 use Rattle.runs.specs.declared.standing.MendLine.TheVariants as mend
-use Rattle.runs.specs.Standings.{Counted, refused_by}
-use Rattle.runs.specs.Whole.{fault_text, unless, after_line}
+use Rattle.runs.proofs.Early.{begins_as, too_long, missed_long}
 use Rattle.runs.specs.Runs.{answer_of, standing_of, mend_read, mend_place}
-use Rattle.runs.proofs.Positions.{line_printed}
 use Rattle.mending.specs.declared.run.MendRun.{MendRun}
 use Rattle.mending.specs.Printing.{Lent, slot_or, with_slot, slot_text, counted, slot_into, slot_taken, slots_text}
 use Rattle.mending.specs.Running.{stopped_at, stopped, told_by, lent_to, SoundAt, Sound, rest_at, rest_of, PrintedBy, SlotTaken}
 use Rattle.mending.proofs.Handed.{Handed, handed}
 use Rattle.mending.proofs.Alike.{Alike, alike_taken, follows, follows_alike}
-use Rattle.mending.proofs.Reading.{given_slot, reads_slot, read_packet, read_missed, read_err, packet_of, packet_long, slot_within, fits}
-
--- a run that is not stopped stands after its header
-pub standing_in : (s : Standing) → stopped_at s ≡ false → (header : Header) × (next : ℕ) × (s ≡ InRun header next)
-standing_in BeforeHeader going = let z : ◌≡◌ {A = ℕ} 0 1 = cc in absurd (omega arith)
-standing_in (InRun header next) going = (header, next, refl)
-standing_in (Stopped f) going = let z : ◌≡◌ {A = ℕ} 0 1 = cc in absurd (omega arith)
+use Rattle.mending.proofs.Reading.{line_of, given_slot, reads_slot, read_packet, read_missed, packet_of, packet_long, slot_within, fits}
 
 abbrev lengths : (window packet row marks : ℕ) → Lent
 lengths window packet row marks = record { window = window; packet = packet; row = row; marks = marks }
@@ -52,12 +45,38 @@ lent_path a b e f g h =
     ap (λ x. lengths x a.packet a.row a.marks) e ∙ ap (λ x. lengths b.window x a.row a.marks) f
     ∙ ap (λ x. lengths b.window b.packet x a.marks) g ∙ ap (λ x. lengths b.window b.packet b.row x) h
 
-module _ {S : Type 0} (K : Kind S) (F : Form S) (before mid after : MendRun S) (line out out' : List ℕ)
+module _ {S : Type 0} (K : Kind S) (F : Form S) where
+  -- a slot's line, as it is read, taken and printed
+  abbrev slot_of_line : MendRun S → ℕ → List ℕ → Result (Option (List S)) LineFault
+  slot_of_line r t line = slot_into K F r.sheet (lent_to r) t line
+
+  abbrev slot_took : MendRun S → ℕ → Option (List S) → Result (Option (List S)) LineFault
+  slot_took r t came = slot_or (slot_refused r.sheet (lent_to r).window t false (lent_to r).row (lent_to r).marks) came
+
+  abbrev slot_follows : MendRun S → ℕ → List (List ℕ) → Option (List S) → List ℕ
+  slot_follows r t lines came = follows K F r.sheet (lent_to r) (with_slot (memory K r.receiver) t came) t (told_by r.receiver) lines
+
+  pub running : Running (λ (r : MendRun S). r.reader.standing) (rest_at K F) SoundAt stopped_at slot_of_line slot_took slot_follows
+  running = record { waits = refl; stops = λ f. refl; sound = λ f r. tt; goes = λ header t. refl; unbegun = λ r lines. refl; silent = λ f r lines. refl; prints = λ header t r line lines. refl }
+
+  -- an A line with more than its symbols
+  pub refused_packet : (r : MendRun S) (begun : List ℕ) → get_or begun 0 0 ≡ 65 → 9 + n r.sheet * F.layout.width < length begun →
+      Refused (rest_of K F) Sound stopped r begun
+  refused_packet r begun is l = refused_alike running r begun fault.Length (λ t line more e.
+      cond-false _ _ _ (begins_as 77 65 line begun more (omega arith) e is)
+      ∙ ap (λ (x : Result (List S) LineFault). and_then (fitting (fault.Slot slot.Place) (lent_to r).packet x) (λ packet. Ok (Some packet)))
+      (too_long F 65 (n r.sheet) t line begun more (omega arith) e is l))
+
+  -- an M line with more than its number
+  pub refused_missed : (r : MendRun S) (begun : List ℕ) → get_or begun 0 0 ≡ 77 → 9 < length begun → Refused (rest_of K F) Sound stopped r begun
+  refused_missed r begun is l = refused_alike running r begun fault.Length (λ t line more e.
+      cond-true _ _ _ (begins_as 77 77 line begun more (omega arith) e is)
+      ∙ ap (λ (x : Result (Unit {0}) LineFault). and_then x (λ _. Ok None)) (missed_long t line begun more e is l))
+
+module _ {S : Type 0} (K : Kind S) (F : Form S) (before mid after : MendRun S) (line out out' : List ℕ) (answer : Result MendLine RunFault)
     (sheet-is : mid.sheet ≡ before.sheet) (receiver-is : mid.receiver ≡ before.receiver)
     (row_is : vec_items mid.row ≡ vec_items before.row) (marks-is : vec_items mid.marks ≡ vec_items before.marks)
-    (reads : mid.reader.standing ≡ standing_of (mend_read F before.reader.standing (length (vec_items before.packet)) line))
-    (holds : vec_items mid.packet ≡ mend_place F before.reader.standing line (vec_items before.packet))
-    (long : length (vec_items mid.packet) ≡ length (vec_items before.packet))
+    (was : Heard (mend_read F) (mend_place F) before.reader.standing mid.reader.standing line answer (vec_items before.packet) (vec_items mid.packet))
   where
     abbrev p : Sheet
     p = before.sheet
@@ -66,172 +85,113 @@ module _ {S : Type 0} (K : Kind S) (F : Form S) (before mid after : MendRun S) (
     lent = lent_to before
 
     -- the line as it was read, where the run stands after its header
-    module _ (header : Header) (t : ℕ) (is : before.reader.standing ≡ InRun header t) (sheets : header.sheet ≡ before.sheet)
-        (receivers : before.receiver.sheet ≡ before.sheet) (slots : before.receiver.counters.slots ≡ t) (few : t ≤ 1000000)
-      where
-        abbrev read : Result (Option (List S)) LineFault
-        read = slot_into K F p lent t line
+    module _ (header : Header) (t : ℕ) (is : before.reader.standing ≡ InRun header t) (sound : SoundAt (InRun header t) before) (few : t ≤ 1000000) where
+      abbrev read : Result (Option (List S)) LineFault
+      read = slot_into K F p lent t line
 
-        abbrev told : Tally
-        told = told_by before.receiver
+      abbrev told : Tally
+      told = told_by before.receiver
 
-        abbrev refusal : Option SlotRefusal
-        refusal = slot_refused p lent.window t false lent.row lent.marks
+      abbrev refusal : Option SlotRefusal
+      refusal = slot_refused p lent.window t false lent.row lent.marks
 
-        read_is : mend_read F before.reader.standing lent.packet line ≡ given_slot header t read
-        read_is =
-            ap (λ s. mend_read F s lent.packet line) is ∙ reads_slot K F lent header t line
-            ∙ ap (λ x. given_slot header t (slot_into K F x lent t line)) sheets
+      read_is : mend_read F before.reader.standing lent.packet line ≡ given_slot header t read
+      read_is =
+          ap (λ s. mend_read F s lent.packet line) is ∙ reads_slot K F lent header t line
+          ∙ ap (λ x. given_slot header t (slot_into K F x lent t line)) sound.0
 
-        rest_is : (lines : List (List ℕ)) → rest_of K F before lines ≡ slots_text K F p lent (memory K before.receiver) t told lines
-        rest_is lines = ap (λ s. rest_at K F s before lines) is
+      module _ (came : Option (List S)) (taken : SlotTaken K F mid after came out out') (read-ok-is : read ≡ Ok came) (fit : unfit p came ≡ false) where
+        now_in : mid.reader.standing ≡ InRun header (t + 1)
+        now_in = was.reads ∙ ap standing_of (read_is ∙ ap (given_slot header t) read-ok-is)
 
-        -- what follows a slot that is taken
-        abbrev next : List (List ℕ) → Option (List S) → List ℕ
-        next lines came = follows K F p lent (with_slot (memory K before.receiver) t came) t told lines
+        abbrev a : Reply S
+        a = replied (vec_items mid.row) (vec_items after.row) (vec_items mid.marks) (vec_items after.marks) taken.answer
 
-        -- a refused line stops the run
-        stops : (e : LineFault) (f : RunFault) → slot_taken K F p lent t line ≡ Err e → line_position e ≤ 9999 → f ≡ run.Line (t + 2) e →
-            after.reader.standing ≡ Stopped f → out' ≡ out ++ unless (fault_refused (run_line f) (run_number f) (run_position f) 18) (fault_text f) →
-            Taken (rest_of K F) Sound stopped before after line out out'
-        stops e f refused near f-is Ended-so printed = record {
-          stays = subst (λ (s : Standing). SoundAt s after) (sym Ended-so) tt;
-          prints = λ lines.
-              ap (λ s. out' ++ rest_at K F s after lines) Ended-so ∙ append-nil out' ∙ printed
-              ∙ ap (λ text. out ++ text) (ap (λ x. unless (fault_refused (run_line x) (run_number x) (run_position x) 18) (fault_text x)) f-is ∙ line_printed (t + 2) e (omega arith) near)
-              ∙ sym (ap (λ text. out ++ text) (rest_is (line ∷ lines) ∙ ap (λ r. after_line t r (next lines)) refused));
-        }
+        mid_slots : mid.receiver.counters.slots ≡ t
+        mid_slots = ap (λ (r : Receiver S). r.counters.slots) receiver-is ∙ sound.2
 
-        took_fault : (f : RunFault) → Err f ≡ answer_of (mend_read F before.reader.standing lent.packet line) → after ≡ mid →
-            out' ≡ out ++ unless (fault_refused (run_line f) (run_number f) (run_position f) 18) (fault_text f) →
-            Taken (rest_of K F) Sound stopped before after line out out'
-        took_fault f answered same printed =
-            let x = read_err header t f read (answered ∙ ap answer_of read_is) in
-            stops x.0 f (ap (λ r. and_then r (slot_or refusal)) x.1) (slot_within K F p lent t line x.0 x.1) x.2
-            (ap (λ (r : MendRun S). r.reader.standing) same ∙ reads ∙ ap standing_of (read_is ∙ ap (given_slot header t) x.1) ∙ ap Stopped (sym x.2)) printed
+        mid_sheet : mid.receiver.sheet ≡ p
+        mid_sheet = ap (λ (r : Receiver S). r.sheet) receiver-is ∙ sound.1
 
-        module _ (came : Option (List S)) (taken : SlotTaken K F mid after came out out') (read-ok-is : read ≡ Ok came) (fit : unfit p came ≡ false) where
-          now_in : mid.reader.standing ≡ InRun header (t + 1)
-          now_in = reads ∙ ap standing_of (read_is ∙ ap (given_slot header t) read-ok-is)
+        call_at : SlotAt K p (room mid.receiver) t mid.receiver after.receiver came a
+        call_at =
+            subst (λ (i : ℕ). SlotAt K p (room mid.receiver) i mid.receiver after.receiver came a) mid_slots
+            (subst (λ (x : Sheet). SlotAt K x (room mid.receiver) mid.receiver.counters.slots mid.receiver after.receiver came a) mid_sheet
+            taken.call)
 
-          abbrev a : Reply S
-          a = replied (vec_items mid.row) (vec_items after.row) (vec_items mid.marks) (vec_items after.marks) taken.answer
+        abbrev refusal_there : Option SlotRefusal
+        refusal_there = slot_refused p (room mid.receiver) t (unfit p came) (length (vec_items mid.row)) (length (vec_items mid.marks))
 
-          mid_slots : mid.receiver.counters.slots ≡ t
-          mid_slots = ap (λ (r : Receiver S). r.counters.slots) receiver-is ∙ slots
+        refusal_is : refusal ≡ refusal_there
+        refusal_is =
+            ap₂ (λ (r : Receiver S) b. slot_refused p (room r) t b lent.row lent.marks) (sym receiver-is) (sym fit)
+            ∙ ap₂ (λ x y. slot_refused p (room mid.receiver) t (unfit p came) x y) (ap length (sym row_is)) (ap length (sym marks-is))
 
-          mid_sheet : mid.receiver.sheet ≡ p
-          mid_sheet = ap (λ (r : Receiver S). r.sheet) receiver-is ∙ receivers
+        taken_is : slot_taken K F p lent t line ≡ slot_or refusal_there came
+        taken_is = ap (λ r. and_then r (slot_or refusal)) read-ok-is ∙ ap (λ r. slot_or r came) refusal_is
 
-          call_at : SlotAt K p (room mid.receiver) t mid.receiver after.receiver came a
-          call_at =
-              subst (λ (i : ℕ). SlotAt K p (room mid.receiver) i mid.receiver after.receiver came a) mid_slots
-              (subst (λ (x : Sheet). SlotAt K x (room mid.receiver) mid.receiver.counters.slots mid.receiver after.receiver came a) mid_sheet
-              taken.call)
+        module _ (none : refusal_there ≡ None) where
+          abbrev h : History S
+          h = memory K after.receiver
 
-          abbrev refusal_there : Option SlotRefusal
-          refusal_there = slot_refused p (room mid.receiver) t (unfit p came) (length (vec_items mid.row)) (length (vec_items mid.marks))
+          abbrev g : History S
+          g = with_slot (memory K before.receiver) t came
 
-          refusal_is : refusal ≡ refusal_there
-          refusal_is =
-              ap₂ (λ (r : Receiver S) b. slot_refused p (room r) t b lent.row lent.marks) (sym receiver-is) (sym fit)
-              ∙ ap₂ (λ x y. slot_refused p (room mid.receiver) t (unfit p came) x y) (ap length (sym row_is)) (ap length (sym marks-is))
+          x : calls.Taken K p t mid.receiver after.receiver came a
+          x = subst (λ (r : Option SlotRefusal). SlotWith K r p t mid.receiver after.receiver came a) none call_at
 
-          taken_is : slot_taken K F p lent t line ≡ slot_or refusal_there came
-          taken_is = ap (λ r. and_then r (slot_or refusal)) read-ok-is ∙ ap (λ r. slot_or r came) refusal_is
+          gave : Handed K F p t mid.receiver after.receiver a mid.reader.standing after.reader.standing out out'
+          gave = handed K F p t mid after came taken.answer out out' sheet-is mid_slots taken.printed x (accepted p (room mid.receiver) t (unfit p came) (length (vec_items mid.row)) (length (vec_items mid.marks)) none)
 
-          declined : (e : SlotRefusal) → refusal_there ≡ Some e → Taken (rest_of K F) Sound stopped before after line out out'
-          declined e some =
-              let x = subst (λ (r : Option SlotRefusal). SlotWith K r p t mid.receiver after.receiver came a) some call_at in
-              let said = subst (λ (r : Answer). PrintedBy F mid after out out' r) x.answer taken.printed in
-              let f = ap (refused_by (fault.Slot e)) now_in ∙ ap (λ i. run.Line i (fault.Slot e)) (let z : (t + 1) + 1 ≡ t + 2 = omega arith in z) in
-              stops (fault.Slot e) (refused_by (fault.Slot e) mid.reader.standing) (taken_is ∙ ap (λ r. slot_or r came) some) (omega arith) f said.0 said.1
+          alike : Alike p (t + 1) h g
+          alike = subst (λ (r : Receiver S). Alike p (t + 1) h (with_slot (memory K r) t came)) receiver-is (alike_taken K p t mid.receiver after.receiver came a x mid_slots)
 
-          module _ (none : refusal_there ≡ None) where
-            abbrev h : History S
-            h = memory K after.receiver
+          lent_is : lent_to after ≡ lent
+          lent_is =
+              lent_path (lent_to after) lent (room_stays mid.receiver.line after.receiver.line x.stays ∙ ap (λ (r : Receiver S). room r) receiver-is)
+              (ap length taken.packet ∙ was.long) (gave.row ∙ ap length row_is) (gave.marks ∙ ap length marks-is)
 
-            abbrev g : History S
-            g = with_slot (memory K before.receiver) t came
+          sheet_stays : after.sheet ≡ p
+          sheet_stays = taken.sheet ∙ sheet-is
 
-            x : calls.Taken K p t mid.receiver after.receiver came a
-            x = subst (λ (r : Option SlotRefusal). SlotWith K r p t mid.receiver after.receiver came a) none call_at
+          told_is : told_by after.receiver ≡ counted K F p h t told
+          told_is = gave.told ∙ ap (λ (r : Receiver S). counted K F p h t (told_by r)) receiver-is
 
-            gave : Handed K F p t mid.receiver after.receiver a mid.reader.standing after.reader.standing out out'
-            gave = handed K F p t mid after came taken.answer out out' sheet-is mid_slots taken.printed x (accepted p (room mid.receiver) t (unfit p came) (length (vec_items mid.row)) (length (vec_items mid.marks)) none)
+          done : Taken (rest_of K F) Sound stopped before after line out out'
+          done =
+              goes_on (running K F) before after line out out' header t is few came (taken_is ∙ ap (λ r. slot_or r came) none) (gave.stands ∙ now_in)
+              (sound.0 ∙ sym sheet_stays, x.sheet ∙ sym sheet_stays, x.slots) (λ lines.
+              ap₂ (λ i l. out' ++ slots_text K F i l h (t + 1) (told_by after.receiver) lines) sheet_stays lent_is
+              ∙ ap₂ (λ text c. text ++ slots_text K F p lent h (t + 1) c lines) gave.text told_is
+              ∙ append_assoc out (slot_text K F p h t) (slots_text K F p lent h (t + 1) (counted K F p h t told) lines)
+              ∙ ap (λ text. out ++ text) (follows_alike K F p lent lines t h g told alike))
 
-            alike : Alike p (t + 1) h g
-            alike = subst (λ (r : Receiver S). Alike p (t + 1) h (with_slot (memory K r) t came)) receiver-is (alike_taken K p t mid.receiver after.receiver came a x mid_slots)
+        by_refusal : (r : Option SlotRefusal) → refusal_there ≡ r → Taken (rest_of K F) Sound stopped before after line out out'
+        by_refusal (Some e) some =
+            let x = subst (λ (r : Option SlotRefusal). SlotWith K r p t mid.receiver after.receiver came a) some call_at in
+            let said = subst (λ (r : Answer). PrintedBy F mid after out out' r) x.answer taken.printed in
+            declined (running K F) before after line out out' header t is few mid (fault.Slot e) now_in (taken_is ∙ ap (λ r. slot_or r came) some) (omega arith) said
+        by_refusal None r-is = done r-is
 
-            lent_is : lent_to after ≡ lent
-            lent_is =
-                lent_path (lent_to after) lent (room_stays mid.receiver.line after.receiver.line x.stays ∙ ap (λ (r : Receiver S). room r) receiver-is)
-                (ap length taken.packet ∙ long) (gave.row ∙ ap length row_is) (gave.marks ∙ ap length marks-is)
-
-            sheet_stays : after.sheet ≡ p
-            sheet_stays = taken.sheet ∙ sheet-is
-
-            standing : after.reader.standing ≡ InRun header (t + 1)
-            standing = gave.stands ∙ now_in
-
-            told_is : told_by after.receiver ≡ counted K F p h t told
-            told_is = gave.told ∙ ap (λ (r : Receiver S). counted K F p h t (told_by r)) receiver-is
-
-            done : Taken (rest_of K F) Sound stopped before after line out out'
-            done = record {
-              stays = subst (λ (s : Standing). SoundAt s after) (sym standing) (sheets ∙ sym sheet_stays, x.sheet ∙ sym sheet_stays, x.slots);
-              prints = λ lines.
-                  ap (λ s. out' ++ rest_at K F s after lines) standing
-                  ∙ ap₂ (λ i l. out' ++ slots_text K F i l h (t + 1) (told_by after.receiver) lines) sheet_stays lent_is
-                  ∙ ap₂ (λ text c. text ++ slots_text K F p lent h (t + 1) c lines) gave.text told_is
-                  ∙ append_assoc out (slot_text K F p h t) (slots_text K F p lent h (t + 1) (counted K F p h t told) lines)
-                  ∙ ap (λ text. out ++ text) (follows_alike K F p lent lines t h g told alike)
-                  ∙ sym (ap (λ text. out ++ text) (rest_is (line ∷ lines) ∙ ap (λ r. after_line t r (next lines)) (taken_is ∙ ap (λ r. slot_or r came) none)));
-            }
-
-          by_refusal : (r : Option SlotRefusal) → refusal_there ≡ r → Taken (rest_of K F) Sound stopped before after line out out'
-          by_refusal (Some e) r-is = declined e r-is
-          by_refusal None r-is = done r-is
-
-        took_packet : (number : ℕ) → Ok (mend.Arrived number) ≡ answer_of (mend_read F before.reader.standing lent.packet line) →
-            SlotTaken K F mid after (Some (vec_items mid.packet)) out out' → Taken (rest_of K F) Sound stopped before after line out out'
-        took_packet number answered taken =
-            let x = read_packet header t number read (answered ∙ ap answer_of read_is) in
-            let into = packet_of K F p lent t line x.0 x.1 in
-            let there : vec_items mid.packet ≡ x.0 =
-            holds ∙ ap (λ s. mend_place F s line (vec_items before.packet)) is
-            ∙ ap (λ i. symbols_or (vec_items before.packet) (packet_into F i t lent.packet line)) sheets
-            ∙ ap (symbols_or (vec_items before.packet)) into in
-            by_refusal (Some (vec_items mid.packet)) taken (x.1 ∙ ap (λ q. Ok (Some q)) (sym there))
-            (fits p (vec_items mid.packet) (ap length there ∙ packet_long K F p lent t line x.0 into)) _ refl
-
-        took_missed : (number : ℕ) → Ok (mend.Missed number) ≡ answer_of (mend_read F before.reader.standing lent.packet line) →
-            SlotTaken K F mid after None out out' → Taken (rest_of K F) Sound stopped before after line out out'
-        took_missed number answered taken =
-            by_refusal None taken (read_missed header t number read (answered ∙ ap answer_of read_is)) refl _ refl
-
-    -- the reader's count, where it stands in the run
-    in_run_count : (header : Header) (t : ℕ) → before.reader.standing ≡ InRun header t → t ≤ 1000000
-    in_run_count header t is = subst (λ (s : Standing). Counted s) is before.reader.counted
-
-    pub packet_took : (number : ℕ) → Ok (mend.Arrived number) ≡ answer_of (mend_read F before.reader.standing (length (vec_items before.packet)) line) →
-        SlotTaken K F mid after (Some (vec_items mid.packet)) out out' → Took (rest_of K F) Sound stopped before after line out out'
-    packet_took number answered taken sane going =
-        let at = standing_in before.reader.standing going in
-        let s = subst (λ (x : Standing). SoundAt x before) at.2 sane in
-        took_packet at.0 at.1 at.2 s.0 s.1 s.2 (in_run_count at.0 at.1 at.2) number answered taken
-
-    pub missed_took : (number : ℕ) → Ok (mend.Missed number) ≡ answer_of (mend_read F before.reader.standing (length (vec_items before.packet)) line) →
-        SlotTaken K F mid after None out out' → Took (rest_of K F) Sound stopped before after line out out'
-    missed_took number answered taken sane going =
-        let at = standing_in before.reader.standing going in
-        let s = subst (λ (x : Standing). SoundAt x before) at.2 sane in
-        took_missed at.0 at.1 at.2 s.0 s.1 s.2 (in_run_count at.0 at.1 at.2) number answered taken
-
-    pub fault_took : (f : RunFault) → Err f ≡ answer_of (mend_read F before.reader.standing (length (vec_items before.packet)) line) → after ≡ mid →
-        out' ≡ out ++ unless (fault_refused (run_line f) (run_number f) (run_position f) 18) (fault_text f) →
+    pub packet_took : (number : ℕ) → Ok (mend.Arrived number) ≡ answer → SlotTaken K F mid after (Some (vec_items mid.packet)) out out' →
         Took (rest_of K F) Sound stopped before after line out out'
-    fault_took f answered same printed sane going =
-        let at = standing_in before.reader.standing going in
-        let s = subst (λ (x : Standing). SoundAt x before) at.2 sane in
-        took_fault at.0 at.1 at.2 s.0 s.1 s.2 (in_run_count at.0 at.1 at.2) f answered same printed
+    packet_took number answered taken = took_in (running K F) before after line out out' before.reader.counted (λ header t is sound few.
+        let x = read_packet header t number (read header t is sound few) (answered ∙ was.answers ∙ ap answer_of (read_is header t is sound few)) in
+        let into = packet_of K F p lent t line x.0 x.1 in
+        let there : vec_items mid.packet ≡ x.0 =
+        was.holds ∙ ap (λ s. mend_place F s line (vec_items before.packet)) is
+        ∙ ap (λ i. symbols_or (vec_items before.packet) (packet_into F i t lent.packet line)) sound.0
+        ∙ ap (symbols_or (vec_items before.packet)) into in
+        by_refusal header t is sound few (Some (vec_items mid.packet)) taken (x.1 ∙ ap (λ q. Ok (Some q)) (sym there))
+        (fits p (vec_items mid.packet) (ap length there ∙ packet_long K F p lent t line x.0 into)) _ refl)
+
+    pub missed_took : (number : ℕ) → Ok (mend.Missed number) ≡ answer → SlotTaken K F mid after None out out' →
+        Took (rest_of K F) Sound stopped before after line out out'
+    missed_took number answered taken = took_in (running K F) before after line out out' before.reader.counted (λ header t is sound few.
+        by_refusal header t is sound few None taken
+        (read_missed header t number (read header t is sound few) (answered ∙ was.answers ∙ ap answer_of (read_is header t is sound few))) refl _ refl)
+
+    pub fault_took : (f : RunFault) → Err f ≡ answer → after ≡ mid → out' ≡ out ++ fault_printed f → Took (rest_of K F) Sound stopped before after line out out'
+    fault_took f answered same printed = took_in (running K F) before after line out out' before.reader.counted (λ header t is sound few.
+        took_fault (running K F) before after line out out' header t is few (λ came. (line_of t came, InRun header (t + 1))) (mend_read F before.reader.standing lent.packet line) f
+        (read_is header t is sound few) (answered ∙ was.answers) (ap (λ (r : MendRun S). r.reader.standing) same ∙ was.reads) (slot_within K F p lent t line) printed)

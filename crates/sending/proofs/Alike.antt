@@ -1,5 +1,5 @@
 -- What is printed turns only on the rows that a sender keeps. Assumes nothing.
-use Rattle.std.proofs.Common.{◌≡◌, ℕ, zero, suc, ◌+◌, ◌<◌, ◌≤◌, false, eqb, ltb, leb, List, [], ◌∷◌, ◌++◌, Ok, Err, Result, sym, refl, ap, ◌∙◌, ap₂, inl, inr, arith}
+use Rattle.std.proofs.Common.{◌≡◌, ℕ, zero, suc, ◌+◌, ◌<◌, ◌≤◌, false, eqb, ltb, leb, List, [], ◌∷◌, ◌++◌, sym, refl, ap, ◌∙◌, ap₂, inl, inr, arith}
 use Rattle.std.proofs.lemmas.Bool.{cases_eq, cases_lt, cond-true, cond-false, eq-eqb, ne_eqb, le-ltb, and_left}
 use Rattle.kinds.specs.Kind.{Kind}
 use Rattle.kinds.specs.Form.{Form}
@@ -12,8 +12,7 @@ use Rattle.transmit.specs.Keeping.{kept, with_row}
 use Rattle.transmit.specs.Calls.{Passes}
 use Rattle.transmit.specs.Refusing.{tail_refused}
 use Rattle.lines.specs.Lines.{ended, packet_line}
-use Rattle.text.specs.declared.fault.LineFault.{LineFault}
-use Rattle.runs.specs.Whole.{after_line}
+use Rattle.opening.proofs.Taking.{after_alike}
 use Rattle.sending.specs.Printing.{Lent, slot_text, row_taken, after_tail, tail_text, rows_text}
 
 module _ {S : Type 0} (K : Kind S) (p : Sheet) where
@@ -66,10 +65,6 @@ module _ {S : Type 0} (K : Kind S) (F : Form S) (p : Sheet) where
       (slot_alike m (m + i) u v same (omega arith)) (tail_alike window place m (i + 1) left u v same)
 
   module _ (lent : Lent) where
-    after_alike : {X : Type 0} (t : ℕ) (r : Result X LineFault) (f g : X → List ℕ) → ((x : X) → f x ≡ g x) → after_line t r f ≡ after_line t r g
-    after_alike t (Ok x) f g same = same x
-    after_alike t (Err e) f g same = refl
-
     pub rows_alike : (lines : List (List ℕ)) (t : ℕ) (u v : Rows S) → Alike K p t u v → rows_text K F p lent u t lines ≡ rows_text K F p lent v t lines
     rows_alike [] t u v same = tail_alike lent.window lent.packet t 0 (T p) u v same
     rows_alike (line ∷ lines) t u v same =

@@ -10,6 +10,7 @@ use text::{LineFault, RunFault, read_header, read_missed, read_packet};
 
 impl RunReader<MendLine> {
     // What a line gives where the reader stands, and where it leads.
+    #[tactic(auto, using(crate::proofs::Numbered::told_err))]
     fn take<P: Printed>(
         &self,
         line: &[u8],

@@ -10,6 +10,7 @@ use text::{LineFault, RunFault, read_header, read_row};
 
 impl RunReader<SendLine> {
     // What a line gives where the reader stands, and where it leads.
+    #[tactic(auto, using(crate::proofs::Numbered::told_err))]
     fn take<P: Printed>(&self, line: &[u8], row: &mut [P]) -> Result<(SendLine, Standing), RunFault>
         ensures given { result ≡ send_read P.form self.now.standing (length row.old) line.now }
         ensures counted { IfOk result (λ to. Counted to.1) }

@@ -1,7 +1,9 @@
 use Rattle.std.proofs.Common.{◌++◌, length, vec_items, ap, ◌∙◌}
 use Rattle.std.proofs.lemmas.List.{length-replicate}
 use Rattle.stream.specs.Lines.{lines_of}
-use Rattle.mend_filter.proofs.Filtering.{none_left, new_prints}
+use Rattle.opening.proofs.Taking.{none_left}
+use Rattle.mending.proofs.Taking.{running}
+use Rattle.mend_filter.proofs.Filtering.{new_prints}
 use Rattle.mend_filter.proofs.filter.mend_slots.Goals as goal
 
 pub returns : goal.returns
@@ -12,7 +14,7 @@ returns g c =
     let made = c.new-run.ensures in
     let fed = c.in_ok-feed_whole.ensures made.sound made.going in
     (c.in_ok-end.ensures fed.stays).0
-    ∙ ap (λ x. vec_items c.feed_whole.new.out ++ x) (none_left K F c.feed_whole.new.run c.args.text.now _ fed.all)
+    ∙ ap (λ x. vec_items c.feed_whole.new.out ++ x) (none_left (running K F) c.feed_whole.new.run c.args.text.now _ fed.all)
     ∙ fed.prints
     ∙ ap (λ x. vec_items c.args.out.now ++ x)
     (new_prints K F p _ _ _ _ c.new-run.result

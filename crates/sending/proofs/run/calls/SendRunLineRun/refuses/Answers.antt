@@ -1,6 +1,6 @@
-use Rattle.std.proofs.Common.{◌≡◌, ◌*◌, ◌<◌, length, ap, arith}
+use Rattle.std.proofs.Common.{◌≡◌, ◌*◌, ap, arith}
 use Rattle.std.proofs.lemmas.Bool.{ltb-true, lt-ltb}
-use Rattle.runs.proofs.Early.{some_letter, within_longest}
+use Rattle.runs.proofs.Early.{within_longest}
 use Rattle.sending.proofs.Taking.{refused_length}
 use Rattle.sending.proofs.run.calls.SendRunLineRun.refuses.Goals as goal
 
@@ -9,8 +9,7 @@ returns-else-letter-ne82 g c =
     let F = g.P.Printed.form in
     let r = c.args.self.now in
     let k : r.sheet.row * c.layout.result.width ≡ r.sheet.row * F.layout.width = ap (λ x. r.sheet.row * x.width) c.layout.ensures in
-    let some : 0 < length c.args.begun.now = some_letter 82 c.args.begun.now (omega arith) c.if-letter-ne82.false in
     record {
-      alike = λ long. refused_length g.P.Symbol.kind F r c.args.begun.now some c.if-letter-ne82.false (omega (arith, ltb-true _ _ long, k));
+      alike = λ long. refused_length g.P.Symbol.kind F r c.args.begun.now c.if-letter-ne82.false (omega (arith, ltb-true _ _ long, k));
       long = λ l. lt-ltb _ _ (omega (arith, within_longest F r.sheet.row (omega (arith, r.sheet.rows.1)), k));
     }
