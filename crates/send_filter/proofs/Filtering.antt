@@ -28,13 +28,18 @@ module _ {S : Type 0} (K : Kind S) (F : Form S) where
   silent (InRun header next) r lines is = let z : ◌≡◌ {A = ℕ} 0 1 = cc in absurd (omega arith)
   silent (Stopped f) r lines is = refl
 
-  -- .. and another has taken all lines of a text
+  -- .. and to another no lines are left
+  pub over : (r : SendRun S) (lines : List (List ℕ)) → (stopped r ≡ false → lines ≡ []) → rest_of K F r [] ≡ rest_of K F r lines
+  over r lines none = elim (cases_Bool (stopped r)) [
+    | inl is ↦ silent r.reader.standing r [] is ∙ sym (silent r.reader.standing r lines is)
+    | inr is ↦ ap (rest_of K F r) (sym (none is))
+  ]
+
+  -- .. where all lines of a text were taken
   pub none_left : (r : SendRun S) (text : List ℕ) (used : ℕ) → (stopped r ≡ false → used ≡ length text) →
       rest_of K F r [] ≡ rest_of K F r (lines_of (drop used text))
-  none_left r text used all = elim (cases_Bool (stopped r)) [
-    | inl is ↦ silent r.reader.standing r [] is ∙ sym (silent r.reader.standing r (lines_of (drop used text)) is)
-    | inr is ↦ ap (λ more. rest_of K F r (lines_of more)) (sym (drop_all used text (omega (arith, all is))))
-  ]
+  none_left r text used all =
+      over r (lines_of (drop used text)) (λ going. ap lines_of (drop_all used text (omega (arith, all going))))
 
   -- a run over memory that fits prints the text of the rows
   pub new_prints : (p : Sheet) (window row packet : ℕ) (r : SendRun S) → window ≡ need p → row ≡ p.row → packet ≡ n p →
