@@ -2,8 +2,6 @@
 #![tactic(auto)]
 
 #[cfg(test)]
-mod lines;
-#[cfg(test)]
 mod pieces;
 #[cfg(test)]
 mod receiving;
@@ -11,5 +9,7 @@ mod receiving;
 mod sending;
 #[cfg(test)]
 mod sheets;
+#[cfg(test)]
+mod symbol_line;
 #[cfg(test)]
 mod texts;

@@ -2,6 +2,7 @@
 ghost use Rattle.std.specs.Prelude.{◌≡◌, ◌++◌, IfOk, OnOk};
 ghost use Rattle.stream.specs.Lines.{lines_of};
 ghost use Rattle.runs.specs.Whole.{reading, slot_read};
+ghost use Rattle.piping.specs.Writing.{Written};
 ghost use Rattle.mending.specs.Text.{list_text, echo, body, mend_text};
 
 use code::Mark;
@@ -9,9 +10,12 @@ use kinds::{Byte, Digit, Printed, Symbol};
 use lines::{Header, SymbolKind};
 use mending::MendRun;
 use opening::{Opening, Program, feed_whole, text_of};
+use piping::{Piped, pump_to_end};
 use receive::window_len;
 use runs::filled;
 use std::alloc::{AllocError, Global};
+use std::io::{BufRead, Write};
+use text::RunFault;
 
 // Prints what the lines after a header bring. `send_filter` has its own: the type of a run has its window's lifetime and its symbols
 // as parameters, which no trait can name.
@@ -32,6 +36,25 @@ fn mend_slots<P: Printed>(
     feed_whole(heap, &mut run, text, out)?;
     run.end(out)?;
     Ok(())
+}
+
+// Writes what the slots of an input bring, and answers the fault that ended the run, if one did.
+fn pump_slots<P: Printed, I: BufRead, O: Write>(
+    heap: Global,
+    header: Header,
+    input: &mut I,
+    output: &mut O,
+) -> anyhow::Result<Option<RunFault>>
+    ensures { OnOk result (Written (λ bytes. list_text P.kind P.form header.sheet (reading (slot_read P.form header.sheet) 0 (lines_of bytes))) (I.remaining input.old) (O.contents output.old) (O.contents output.new)) }
+{
+    let sheet = header.sheet;
+    let mut window = filled(heap, P::zero(), window_len(sheet))?;
+    let packet = filled(heap, P::zero(), sheet.packet_len())?;
+    let row = filled(heap, P::zero(), sheet.row as usize)?;
+    let marks = filled(heap, Mark::Arrived, sheet.row as usize)?;
+    let run = MendRun::new(header, window.as_mut_slice(), packet, row, marks);
+    let fault = pump_to_end(heap, run, input, output, |run, printed| run.end(printed))?;
+    Ok(fault)
 }
 
 #[derive(Clone, Copy)]
@@ -61,6 +84,21 @@ impl Program for Mending {
             SymbolKind::Digits => mend_slots::<Digit>(heap, header, text, out)?,
         }
         Ok(())
+    }
+}
+
+impl Piped for Mending {
+    fn pump_body<I: BufRead, O: Write>(
+        heap: Global,
+        header: Header,
+        input: &mut I,
+        output: &mut O,
+    ) -> anyhow::Result<Option<RunFault>> {
+        let fault = match header.kind {
+            SymbolKind::Bytes => pump_slots::<Byte, _, _>(heap, header, input, output)?,
+            SymbolKind::Digits => pump_slots::<Digit, _, _>(heap, header, input, output)?,
+        };
+        Ok(fault)
     }
 }
 

@@ -89,14 +89,18 @@ module _ {R X : Type 0} {standing : R → Standing} {rest_at : Standing → R �
         let at = standing_in (standing before) going in
         takes at.0 at.1 at.2 (subst (λ (s : Standing). SoundAt s before) at.2 sane) (subst (λ (s : Standing). Counted s) at.2 counted)
 
-    -- a stopped run prints nothing more, and another has taken all lines of a text
-    pub none_left : (r : R) (text : List ℕ) (used : ℕ) → (stopped r ≡ false → used ≡ length text) → rest r [] ≡ rest r (lines_of (drop used text))
-    none_left r text used = from (standing r)
+    -- a stopped run prints nothing more, and to another no lines are left
+    pub over : (r : R) (lines : List (List ℕ)) → (stopped r ≡ false → lines ≡ []) → rest r [] ≡ rest r lines
+    over r lines = from (standing r)
       where
-        from : (s : Standing) → (stopped_at s ≡ false → used ≡ length text) → rest_at s r [] ≡ rest_at s r (lines_of (drop used text))
-        from BeforeHeader all = running.unbegun r [] ∙ sym (running.unbegun r (lines_of (drop used text)))
-        from (InRun header t) all = ap (λ more. rest_at (InRun header t) r (lines_of more)) (sym (drop_all used text (omega (arith, all (running.goes header t)))))
-        from (Stopped f) all = running.silent f r [] ∙ sym (running.silent f r (lines_of (drop used text)))
+        from : (s : Standing) → (stopped_at s ≡ false → lines ≡ []) → rest_at s r [] ≡ rest_at s r lines
+        from BeforeHeader none = running.unbegun r [] ∙ sym (running.unbegun r lines)
+        from (InRun header t) none = ap (rest_at (InRun header t) r) (sym (none (running.goes header t)))
+        from (Stopped f) none = running.silent f r [] ∙ sym (running.silent f r lines)
+
+    -- .. where all lines of a text were taken
+    pub none_left : (r : R) (text : List ℕ) (used : ℕ) → (stopped r ≡ false → used ≡ length text) → rest r [] ≡ rest r (lines_of (drop used text))
+    none_left r text used all = over r (lines_of (drop used text)) (λ going. ap lines_of (drop_all used text (omega (arith, all going))))
 
     -- a line that is refused before it has ended
     pub refused_alike : (r : R) (begun : List ℕ) (e : LineFault) → ((t : ℕ) (line rest : List ℕ) → line ≡ begun ++ rest → read r t line ≡ Err e) →

@@ -10,7 +10,7 @@ use Rattle.stream.specs.Running.{Fed, Finished}
 use Rattle.piping.specs.Pumping.{PieceFed, Pumped}
 
 -- known bytes that grew are known
-appended : (ys : List ℕ) (new : Option (List ℕ)) (bs : List ℕ) → Appends (Some ys) new bs → new ≡ Some (ys ++ bs)
+pub appended : (ys : List ℕ) (new : Option (List ℕ)) (bs : List ℕ) → Appends (Some ys) new bs → new ≡ Some (ys ++ bs)
 appended ys None bs h = absurd h
 appended ys (Some zs) bs h = ap Some h
 

@@ -1,1 +1,2 @@
 pub mod Pumping
+pub mod Writing

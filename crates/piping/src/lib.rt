@@ -2,7 +2,9 @@
 #![tactic(auto)]
 
 mod flow;
+mod piped;
 mod program;
 
 pub use flow::{in_pieces, pump, pump_to_end, write_out};
+pub use piped::{Piped, pipe};
 pub use program::run_filter;

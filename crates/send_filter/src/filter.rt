@@ -3,14 +3,18 @@ ghost use Rattle.std.specs.Prelude.{◌≡◌, ◌++◌, IfOk, OnOk};
 ghost use Rattle.text.specs.Reading.{row_read};
 ghost use Rattle.stream.specs.Lines.{lines_of};
 ghost use Rattle.runs.specs.Whole.{reading};
+ghost use Rattle.piping.specs.Writing.{Written};
 ghost use Rattle.sending.specs.Text.{list_text, echo, body, send_text};
 
 use kinds::{Byte, Digit, Printed, Symbol};
 use lines::{Header, SymbolKind, write_header};
 use opening::{Opening, Program, feed_whole, text_of};
+use piping::{Piped, pump_to_end};
 use runs::{filled, print_with};
 use sending::SendRun;
 use std::alloc::{AllocError, Global};
+use std::io::{BufRead, Write};
+use text::RunFault;
 use transmit::window_len;
 
 // Prints what the lines after a header bring. `mend_filter` has its own: the type of a run has its window's lifetime and its symbols
@@ -31,6 +35,24 @@ fn send_rows<P: Printed>(
     feed_whole(heap, &mut run, text, out)?;
     run.end(out)?;
     Ok(())
+}
+
+// Writes what the rows of an input bring, and answers the fault that ended the run, if one did.
+fn pump_rows<P: Printed, I: BufRead, O: Write>(
+    heap: Global,
+    header: Header,
+    input: &mut I,
+    output: &mut O,
+) -> anyhow::Result<Option<RunFault>>
+    ensures { OnOk result (Written (λ bytes. list_text P.kind P.form header.sheet (reading (row_read P.form header.sheet) 0 (lines_of bytes))) (I.remaining input.old) (O.contents output.old) (O.contents output.new)) }
+{
+    let sheet = header.sheet;
+    let mut window = filled(heap, P::zero(), window_len(sheet))?;
+    let row = filled(heap, P::zero(), sheet.row as usize)?;
+    let packet = filled(heap, P::zero(), sheet.packet_len())?;
+    let run = SendRun::new(header, window.as_mut_slice(), row, packet);
+    let fault = pump_to_end(heap, run, input, output, |run, printed| run.end(printed))?;
+    Ok(fault)
 }
 
 #[derive(Clone, Copy)]
@@ -61,6 +83,21 @@ impl Program for Sending {
             SymbolKind::Digits => send_rows::<Digit>(heap, header, text, out)?,
         }
         Ok(())
+    }
+}
+
+impl Piped for Sending {
+    fn pump_body<I: BufRead, O: Write>(
+        heap: Global,
+        header: Header,
+        input: &mut I,
+        output: &mut O,
+    ) -> anyhow::Result<Option<RunFault>> {
+        let fault = match header.kind {
+            SymbolKind::Bytes => pump_rows::<Byte, _, _>(heap, header, input, output)?,
+            SymbolKind::Digits => pump_rows::<Digit, _, _>(heap, header, input, output)?,
+        };
+        Ok(fault)
     }
 }
 
