@@ -21,7 +21,7 @@ impl RunReader<MendLine> {
         ensures place { packet.new ≡ mend_place P.form self.now.standing line.now packet.old }
     {
         let at = self.standing.line();
-        match (&self.standing, letter_of(line)) {
+        match (self.standing, letter_of(line)) {
             (Standing::BeforeHeader, Some('H')) => {
                 let header = numbered(at, read_header(line))?;
                 Ok((
@@ -29,9 +29,13 @@ impl RunReader<MendLine> {
                     Standing::InRun { header, next: 0 },
                 ))
             }
-            (Standing::InRun { header, next }, Some('A')) => {
-                let header = *header;
-                let number = *next;
+            (
+                Standing::InRun {
+                    header,
+                    next: number,
+                },
+                Some('A'),
+            ) => {
                 numbered(at, read_packet(line, header.sheet, number, packet))?;
                 let next = number + 1;
                 Ok((
@@ -39,9 +43,13 @@ impl RunReader<MendLine> {
                     Standing::InRun { header, next },
                 ))
             }
-            (Standing::InRun { header, next }, Some('M')) => {
-                let header = *header;
-                let number = *next;
+            (
+                Standing::InRun {
+                    header,
+                    next: number,
+                },
+                Some('M'),
+            ) => {
                 numbered(at, read_missed(line, number))?;
                 let next = number + 1;
                 Ok((
@@ -49,7 +57,7 @@ impl RunReader<MendLine> {
                     Standing::InRun { header, next },
                 ))
             }
-            (Standing::Stopped(fault), _) => Err(*fault),
+            (Standing::Stopped(fault), _) => Err(fault),
             _ => Err(RunFault::Line {
                 line: at,
                 fault: LineFault::Letter,

@@ -17,7 +17,7 @@ impl RunReader<SendLine> {
         ensures place { row.new ≡ send_place P.form self.now.standing line.now row.old }
     {
         let at = self.standing.line();
-        match (&self.standing, letter_of(line)) {
+        match (self.standing, letter_of(line)) {
             (Standing::BeforeHeader, Some('H')) => {
                 let header = numbered(at, read_header(line))?;
                 Ok((
@@ -25,14 +25,18 @@ impl RunReader<SendLine> {
                     Standing::InRun { header, next: 0 },
                 ))
             }
-            (Standing::InRun { header, next }, Some('R')) => {
-                let header = *header;
-                let number = *next;
+            (
+                Standing::InRun {
+                    header,
+                    next: number,
+                },
+                Some('R'),
+            ) => {
                 numbered(at, read_row(line, header.sheet, number, row))?;
                 let next = number + 1;
                 Ok((SendLine::Row { number }, Standing::InRun { header, next }))
             }
-            (Standing::Stopped(fault), _) => Err(*fault),
+            (Standing::Stopped(fault), _) => Err(fault),
             _ => Err(RunFault::Line {
                 line: at,
                 fault: LineFault::Letter,
