@@ -38,7 +38,8 @@ fn mend_slots<P: Printed>(
     Ok(())
 }
 
-// Writes what the slots of an input bring, and answers the fault that ended the run, if one did.
+// Writes what the slots of an input bring, and answers the fault that ended the run, if one did. Beside `mend_slots`, which fails only
+// for want of memory.
 fn pump_slots<P: Printed, I: BufRead, O: Write>(
     heap: Global,
     header: Header,

@@ -37,7 +37,8 @@ fn send_rows<P: Printed>(
     Ok(())
 }
 
-// Writes what the rows of an input bring, and answers the fault that ended the run, if one did.
+// Writes what the rows of an input bring, and answers the fault that ended the run, if one did. Beside `send_rows`, which fails only
+// for want of memory.
 fn pump_rows<P: Printed, I: BufRead, O: Write>(
     heap: Global,
     header: Header,
