@@ -71,97 +71,79 @@ impl Display for Fate {
     }
 }
 
-// One slot at the receiver: the packet arrives or is missed, and what falls due is shown.
-fn hear(
-    rt: &impl Print,
-    receiver: &mut Receiver<'_, Digit>,
-    slot: u32,
-    packet: &[Digit; 6],
-    missed: &[u32],
-) -> anyhow::Result<()> {
-    let mut row = [Digit::D0; 4];
-    let mut marks = [Mark::Arrived; 4];
-    let (symbols, parity) = packet.split_at(4);
-    print!(rt; "slot {slot:>2} {} |{}", Symbols(symbols), Symbols(parity))?;
-    let answer = if missed.contains(&slot) {
-        print!(rt; "  missed   ")?;
-        receiver.missed(&mut row, &mut marks)
-    } else {
-        print!(rt; "  arrived  ")?;
-        receiver.arrived(packet, &mut row, &mut marks)
-    };
-    match answer {
-        Ok(Some(due)) => {
-            let marked = Marked {
-                row: &row,
-                marks: &marks,
-            };
-            println!(rt; "row {} {marked}  {}", due.row, Fate(due.verdict))?
+// A receiver in a hall where these slots are missed.
+#[derive(Drop)]
+struct Hall<'a, 'r> {
+    receiver: Receiver<'r, Digit>,
+    missed: &'a [u32],
+}
+
+impl Hall<'_, '_> {
+    // One slot: the packet arrives or is missed, and what falls due is shown.
+    fn hear(&mut self, rt: &impl Print, slot: u32, packet: &[Digit; 6]) -> anyhow::Result<()> {
+        let mut row = [Digit::D0; 4];
+        let mut marks = [Mark::Arrived; 4];
+        let (symbols, parity) = packet.split_at(4);
+        print!(rt; "slot {slot:>2} {} |{}", Symbols(symbols), Symbols(parity))?;
+        let answer = if self.missed.contains(&slot) {
+            print!(rt; "  missed   ")?;
+            self.receiver.missed(&mut row, &mut marks)
+        } else {
+            print!(rt; "  arrived  ")?;
+            self.receiver.arrived(packet, &mut row, &mut marks)
+        };
+        match answer {
+            Ok(Some(due)) => {
+                let marked = Marked {
+                    row: &row,
+                    marks: &marks,
+                };
+                println!(rt; "row {} {marked}  {}", due.row, Fate(due.verdict))?
+            }
+            Ok(None) => println!(rt; "nothing due")?,
+            Err(refusal) => println!(rt; "refused: {}", refusal.number())?,
         }
-        Ok(None) => println!(rt; "nothing due")?,
-        Err(refusal) => println!(rt; "refused: {}", refusal.number())?,
+        Ok(())
     }
-    Ok(())
-}
 
-// A packet on its way: the receiver hears it if it was written; else its refusal is shown.
-fn pass(
-    rt: &impl Print,
-    receiver: &mut Receiver<'_, Digit>,
-    slot: u32,
-    packet: &[Digit; 6],
-    written: Result<(), u32>,
-    missed: &[u32],
-) -> anyhow::Result<()> {
-    match written {
-        Ok(()) => hear(rt, receiver, slot, packet, missed)?,
-        Err(refusal) => println!(rt; "refused: {refusal}")?,
+    // A packet on its way: the receiver hears it if it was written; else the refusal is shown by its number.
+    fn pass(
+        &mut self,
+        rt: &impl Print,
+        slot: u32,
+        packet: &[Digit; 6],
+        written: Result<(), u32>,
+    ) -> anyhow::Result<()> {
+        match written {
+            Ok(()) => self.hear(rt, slot, packet)?,
+            Err(refusal) => println!(rt; "refused: {refusal}")?,
+        }
+        Ok(())
     }
-    Ok(())
-}
 
-// Puts every row and lets the receiver hear its packet.
-fn send_rows(
-    rt: &impl Print,
-    sender: &mut Sender<'_, Digit>,
-    receiver: &mut Receiver<'_, Digit>,
-    missed: &[u32],
-) -> anyhow::Result<()> {
-    for (slot, row) in (0..).zip(ROWS) {
-        let mut packet = [Digit::D0; 6];
-        let written = sender.put(&row.map(Digit::of_rest), &mut packet);
-        pass(
-            rt,
-            receiver,
-            slot,
-            &packet,
-            written.map_err(PutRefusal::number),
-            missed,
-        )?;
+    // Puts every row and lets the receiver hear its packet.
+    fn send_rows(&mut self, rt: &impl Print, sender: &mut Sender<'_, Digit>) -> anyhow::Result<()> {
+        for (slot, row) in (0..).zip(ROWS) {
+            let mut packet = [Digit::D0; 6];
+            let written = sender.put(&row.map(Digit::of_rest), &mut packet);
+            self.pass(rt, slot, &packet, written.map_err(PutRefusal::number))?;
+        }
+        Ok(())
     }
-    Ok(())
-}
 
-// Draws every tail packet and lets the receiver hear it.
-fn send_tail(
-    rt: &impl Print,
-    winding: &mut WindingSender<'_, Digit>,
-    receiver: &mut Receiver<'_, Digit>,
-    missed: &[u32],
-) -> anyhow::Result<()> {
-    for slot in 6..12 {
-        let mut packet = [Digit::D0; 6];
-        let written = winding.tail(&mut packet);
-        pass(
-            rt,
-            receiver,
-            slot,
-            &packet,
-            written.map_err(TailRefusal::number),
-            missed,
-        )?;
+    // Draws every tail packet and lets the receiver hear it.
+    fn send_tail(
+        &mut self,
+        rt: &impl Print,
+        winding: &mut WindingSender<'_, Digit>,
+    ) -> anyhow::Result<()> {
+        for slot in 6..12 {
+            let mut packet = [Digit::D0; 6];
+            let written = winding.tail(&mut packet);
+            self.pass(rt, slot, &packet, written.map_err(TailRefusal::number))?;
+        }
+        Ok(())
     }
-    Ok(())
 }
 
 // Sends the list to a receiver that misses these slots.
@@ -170,14 +152,15 @@ fn send_list(rt: &impl Print, sheet: Sheet, missed: &[u32]) -> anyhow::Result<()
     let mut far = [Digit::D0; 72];
     let Ends {
         mut sender,
-        mut receiver,
+        receiver,
     } = Ends::new(sheet, &mut near, &mut far);
-    send_rows(rt, &mut sender, &mut receiver, missed)?;
+    let mut hall = Hall { receiver, missed };
+    hall.send_rows(rt, &mut sender)?;
     let mut winding = sender.wind_down();
-    let heard = send_tail(rt, &mut winding, &mut receiver, missed);
+    let heard = hall.send_tail(rt, &mut winding);
     let sent = winding.end();
     heard?;
-    let tally = receiver.tally();
+    let tally = hall.receiver.tally();
     println!(rt; "sent {} rows and {} tail packets", sent.rows, sent.tails)?;
     println!(rt;
         "slots {}: rows whole {}, mended {}, lost {}",
