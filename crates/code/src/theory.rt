@@ -4,7 +4,7 @@ ghost use Rattle.code.specs.Theory.{Theory};
 use crate::sheet::Sheet;
 use kinds::Symbol;
 
-// Answers its own sheet; its contract is the theory.
+// Answers the sheet that its contract, the theory, is about.
 #[tactic(auto, using(crate::proofs::Standing::theory))]
 pub fn stands<S: Symbol>(sheet: Sheet) -> Sheet
     ensures { Theory S.kind sheet }

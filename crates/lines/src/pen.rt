@@ -53,6 +53,7 @@ impl<'a> LinePen<'a> {
         self.at = next;
     }
 
+    // The lines of `number` around another piece.
     fn lost(&mut self, width: usize)
         requires within { self.old.at + width ≤ length self.old.place.now }
         requires some { 1 ≤ width }

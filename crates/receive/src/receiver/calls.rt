@@ -70,8 +70,8 @@ impl<'w, S: Symbol> Receiver<'w, S> {
         Ok(self.hand_out(row, marks))
     }
 
-    // Whether a slot call can be taken, with a packet that is fit or unfit, and places for so many symbols and marks: the first
-    // refusal that holds.
+    // Whether a slot call can be taken, with an unfit packet or not (a missed slot has none, which is not unfit), and places for so
+    // many symbols and marks: the first refusal that holds.
     fn check_slot(&self, unfit: bool, symbols: usize, marks: usize) -> Result<(), SlotRefusal>
         ensures { result_err result ≡ slot_refused self.now.sheet (room self.now) self.now.counters.slots unfit symbols marks }
     {

@@ -16,7 +16,8 @@ use code::{Mark, SlotRefusal};
 use kinds::Symbol;
 
 impl<'w, S: Symbol> Receiver<'w, S> {
-    // Takes a slot of this state; the packet of a missed slot is not looked at.
+    // Takes a slot of this state; the packet of a missed slot is not looked at. The two come apart, as many slots have them in two
+    // slices.
     fn take_slot(
         &mut self,
         state: SlotState,
@@ -33,7 +34,8 @@ impl<'w, S: Symbol> Receiver<'w, S> {
     }
 
     // Takes as many slots as there are states, each with its part of the packets (that of a missed slot is not looked at), and
-    // with its part of the rows and of the marks as places; answers how many rows fell due.
+    // with its part of the rows and of the marks as places; answers how many rows fell due. Slices side by
+    // side, since a caller lends them, each whole in one piece.
     #[tactic(auto, using(crate::proofs::Driving::part_ends))]
     pub fn take_slots(
         &mut self,
