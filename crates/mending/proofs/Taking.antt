@@ -1,12 +1,9 @@
 -- A mending run takes a line. Assumes nothing.
-use Rattle.std.proofs.Common.{◌≡◌, ℕ, ◌+◌, ◌*◌, ◌<◌, ◌≤◌, get_or, false, List, ◌++◌, length, Some, None, Ok, Err, vec_items, Option, Result, sym, refl, ap, ◌∙◌, subst, ap₂, arith}
-use Rattle.std.proofs.lemmas.Bool.{cond-true, cond-false}
+use Rattle.std.proofs.Common.{◌≡◌, ℕ, ◌+◌, ◌≤◌, false, List, ◌++◌, length, Some, None, Ok, Err, vec_items, Option, Result, sym, refl, ap, ◌∙◌, subst, ap₂, arith}
 use Rattle.std.proofs.lemmas.List.{append_assoc}
 use Rattle.kinds.specs.Kind.{Kind}
 use Rattle.kinds.specs.Form.{Form}
 use Rattle.code.specs.declared.refusal.SlotRefusal.{SlotRefusal}
-use Rattle.code.specs.declared.refusal.SlotRefusal.TheVariants as slot
-use Rattle.code.specs.Sheets.{n}
 use Rattle.code.specs.declared.sheet.Sheet.{Sheet}
 use Rattle.code.specs.Mending.{History}
 use Rattle.line.proofs.Staying.{room_stays}
@@ -22,13 +19,12 @@ use Rattle.lines.specs.declared.header.Header.{Header}
 use Rattle.text.specs.declared.fault.LineFault.{LineFault}
 use Rattle.text.specs.declared.fault.LineFault.TheVariants as fault
 use Rattle.text.specs.declared.fault.RunFault.{RunFault}
-use Rattle.text.specs.Reading.{and_then, fitting, packet_into, symbols_or}
-use Rattle.stream.specs.Running.{Taken, Took, Refused}
-use Rattle.opening.proofs.Taking.{Heard, Running, fault_printed, took_in, refused_alike, took_fault, declined, goes_on}
+use Rattle.text.specs.Reading.{and_then, packet_into, symbols_or}
+use Rattle.stream.specs.Running.{Taken, Took}
+use Rattle.opening.proofs.Taking.{Heard, Running, fault_printed, took_in, took_fault, declined, goes_on}
 use Rattle.runs.specs.declared.standing.Standing.TheVariants.{InRun}
 use Rattle.runs.specs.declared.standing.MendLine.{MendLine}
 use Rattle.runs.specs.declared.standing.MendLine.TheVariants as mend
-use Rattle.runs.proofs.Early.{begins_as, too_long, missed_long}
 use Rattle.runs.specs.Runs.{answer_of, standing_of, mend_read, mend_place}
 use Rattle.mending.specs.declared.run.MendRun.{MendRun}
 use Rattle.mending.specs.Printing.{Lent, slot_or, with_slot, slot_text, counted, slot_into, slot_taken, slots_text}
@@ -58,20 +54,6 @@ module _ {S : Type 0} (K : Kind S) (F : Form S) where
 
   pub running : Running (λ (r : MendRun S). r.reader.standing) (rest_at K F) SoundAt stopped_at slot_of_line slot_took slot_follows
   running = record { waits = refl; stops = λ f. refl; sound = λ f r. tt; goes = λ header t. refl; unbegun = λ r lines. refl; silent = λ f r lines. refl; prints = λ header t r line lines. refl }
-
-  -- an A line with more than its symbols
-  pub refused_packet : (r : MendRun S) (begun : List ℕ) → get_or begun 0 0 ≡ 65 → 9 + n r.sheet * F.layout.width < length begun →
-      Refused (rest_of K F) Sound stopped r begun
-  refused_packet r begun is l = refused_alike running r begun fault.Length (λ t line more e.
-      cond-false _ _ _ (begins_as 77 65 line begun more (omega arith) e is)
-      ∙ ap (λ (x : Result (List S) LineFault). and_then (fitting (fault.Slot slot.Place) (lent_to r).packet x) (λ packet. Ok (Some packet)))
-      (too_long F 65 (n r.sheet) t line begun more (omega arith) e is l))
-
-  -- an M line with more than its number
-  pub refused_missed : (r : MendRun S) (begun : List ℕ) → get_or begun 0 0 ≡ 77 → 9 < length begun → Refused (rest_of K F) Sound stopped r begun
-  refused_missed r begun is l = refused_alike running r begun fault.Length (λ t line more e.
-      cond-true _ _ _ (begins_as 77 77 line begun more (omega arith) e is)
-      ∙ ap (λ (x : Result (Unit {0}) LineFault). and_then x (λ _. Ok None)) (missed_long t line begun more e is l))
 
 module _ {S : Type 0} (K : Kind S) (F : Form S) (before mid after : MendRun S) (line out out' : List ℕ) (answer : Result MendLine RunFault)
     (sheet-is : mid.sheet ≡ before.sheet) (receiver-is : mid.receiver ≡ before.receiver)

@@ -1,23 +1,22 @@
 -- A slot call that stores a slot and then hands out what falls due. Assumes nothing.
-use Rattle.std.proofs.Common.{◌≡◌, ℕ, ◌+◌, ◌-◌, ◌%◌, ◌<◌, ◌≤◌, Bool, false, cond, not, ◌||◌, eqb, ltb, leb, List, length, set, Some, None, Ok, Option, sym, ap, ◌∙◌, subst, ap₂, inl, inr, arith}
+use Rattle.std.proofs.Common.{◌≡◌, ℕ, ◌+◌, ◌%◌, ◌<◌, ◌≤◌, Bool, false, cond, not, ◌||◌, eqb, ltb, leb, List, length, set, Some, None, Ok, Option, sym, ap, ◌∙◌, subst, ap₂, inl, inr, arith}
 use Rattle.std.proofs.lemmas.List.{length-set}
 use Rattle.std.proofs.lemmas.Bool.{cases_Bool, cond-true, cond-false, ltb-false, leb-false, eqb-true, not-false, or_parts}
 use Rattle.kinds.specs.Kind.{Kind}
 use Rattle.code.specs.declared.mark.Mark.{Mark}
 use Rattle.code.specs.declared.refusal.SlotRefusal.{SlotRefusal}
 use Rattle.code.specs.declared.sheet.Sheet.{Sheet}
-use Rattle.code.specs.Sheets.{T, n}
+use Rattle.code.specs.Sheets.{n}
 use Rattle.code.specs.Refusals.{top_slots}
-use Rattle.code.specs.Mending.{History, heard, row_of, marks_of}
+use Rattle.code.specs.Mending.{History}
 use Rattle.line.specs.Ring.{entered}
 use Rattle.line.specs.Line.{contents, Stays}
 use Rattle.receive.specs.declared.due.Due.{Due}
-use Rattle.receive.specs.declared.due.Verdict.{Verdict}
 use Rattle.receive.specs.declared.receiver.Receiver.{Receiver}
 use Rattle.receive.specs.declared.table.SlotState.{SlotState}
 use Rattle.receive.specs.Memory.{need, recalled, memory}
 use Rattle.receive.specs.Refusing.{unfit, slot_refused}
-use Rattle.receive.specs.Handing.{replied, Hands, verdict, one, whole_row, mended_row, lost_row}
+use Rattle.receive.specs.Handing.{replied, Hands, one, whole_row, mended_row, lost_row}
 use Rattle.receive.specs.Calls.{room, Taken, SlotWith, SlotCall, HandsOut}
 use Rattle.receive.proofs.Memories.{state_of, StandsFor, recall_latest, recall_earlier}
 
@@ -56,20 +55,6 @@ memory_is K r p t states held a b c d =
     ap (λ (x : Sheet). recalled K x r.counters.slots r.table.states (contents r.line)) a
     ∙ ap (λ (x : ℕ). recalled K p x r.table.states (contents r.line)) b
     ∙ ap₂ (λ x y. recalled K p t x y) c d
-
--- the row that falls due was written
-pub hands_late : {S : Type 0} (K : Kind S) (p : Sheet) (h h' : History S) (t i : ℕ) (row row' : List S) (marks marks' : List Mark) (v : Verdict) → h' ≡ h → T p ≤ t → i ≡ t - T p → row' ≡ row_of K p h i → marks' ≡ marks_of p (heard h) i → v ≡ verdict (marks_of p (heard h) i) → Hands K p h' t (replied row row' marks marks' (Ok (Some (record { row = i; verdict = v }))))
-hands_late K p h h' t i row row' marks marks' v same old at row_is marks-are judged =
-    subst (λ (x : History _). Hands K p x t (replied row row' marks marks' (Ok (Some (record { row = i; verdict = v }))))) (sym same) (record {
-      early = λ l. absurd (omega arith);
-      late = λ j due.
-          let here : i ≡ j = omega arith in
-          record {
-            answer = ap₂ (λ k u. Ok (Some (record { row = k; verdict = u }))) here (judged ∙ ap (λ k. verdict (marks_of p (heard h) k)) here);
-            row = row_is ∙ ap (row_of K p h) here;
-            marks = marks-are ∙ ap (marks_of p (heard h)) here;
-          };
-    })
 
 -- a slot goes into the table and the line, and then what falls due is handed out
 module _ {S : Type 0} {K : Kind S} (before : Receiver S) {mid after : Receiver S} (came : Option (List S)) (q : List S) {row row' : List S} {marks marks' : List Mark} {due : Option Due}

@@ -1,5 +1,5 @@
 -- Lines that are refused before they have ended. Assumes nothing.
-use Rattle.std.proofs.Common.{eqb, ap, ◌≡◌, ℕ, ◌+◌, ◌*◌, ◌<◌, ◌≤◌, false, List, [], ◌∷◌, ◌++◌, length, get_or, Err, refl, ◌∙◌, mul-le-mul, arith}
+use Rattle.std.proofs.Common.{eqb, ap, ◌≡◌, ℕ, ◌+◌, ◌*◌, ◌<◌, false, List, [], ◌∷◌, ◌++◌, length, get_or, Err, refl, ◌∙◌, arith}
 use Rattle.std.proofs.lemmas.List.{length-append}
 use Rattle.std.proofs.lemmas.Bool.{cond-true, cond-false, eq-eqb, ne_eqb}
 use Rattle.kinds.specs.Form.{Form}
@@ -21,10 +21,6 @@ module _ {S : Type 0} (F : Form S) where
   too_long letter count next line begun more some e is l =
       cond-true _ _ _ (begins_as letter letter line begun more some e is ∙ eq-eqb letter letter refl)
       ∙ cond-false _ _ _ (not_of_length (9 + count * F.layout.width) line begun more e l)
-
-  -- no line with so many symbols is longer than the longest
-  pub within_longest : (count : ℕ) → count ≤ 64 → 9 + count * F.layout.width ≤ 521
-  within_longest count few = let room : count * F.layout.width ≤ 64 * 8 = mul-le-mul few F.width_small in omega arith
 
 pub missed_long : (next : ℕ) (line begun more : List ℕ) → line ≡ begun ++ more → get_or begun 0 0 ≡ 77 → 9 < length begun → missed_read next line ≡ Err fault.Length
 missed_long next line begun more e is l =

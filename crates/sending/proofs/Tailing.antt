@@ -1,5 +1,5 @@
 -- A tail packet after the other. Assumes nothing.
-use Rattle.std.proofs.Common.{◌≡◌, ℕ, suc, ◌+◌, ◌-◌, ◌<◌, ◌≤◌, ltb, leb, List, [], ◌++◌, length, Some, None, Ok, Err, vec_items, Option, Result, sym, refl, ap, ◌∙◌, subst, ap₂, inl, inr, arith}
+use Rattle.std.proofs.Common.{◌≡◌, ℕ, suc, ◌+◌, ◌-◌, ◌<◌, ◌≤◌, ltb, leb, List, [], ◌++◌, length, Some, None, Ok, Err, Option, Result, sym, refl, ap, ◌∙◌, subst, inl, inr, arith}
 use Rattle.std.proofs.lemmas.List.{append-nil, append_assoc}
 use Rattle.std.proofs.lemmas.Bool.{cases_eq, cond-true, cond-false, eq-eqb, ne_eqb, le-ltb, and_left}
 use Rattle.kinds.specs.Kind.{Kind}
@@ -14,22 +14,16 @@ use Rattle.line.proofs.Staying.{room_stays}
 use Rattle.transmit.specs.declared.sender.WindingSender.{WindingSender}
 use Rattle.transmit.specs.Keeping.{kept, with_row}
 use Rattle.transmit.specs.Refusing.{tail_refused}
-use Rattle.transmit.specs.Calls.{room, Drawn, drawing, TailCall, TailAt, TailWith, WindCall}
+use Rattle.transmit.specs.Calls.{room, Drawn, drawing, TailCall, TailAt, TailWith}
 use Rattle.transmit.proofs.Allowing.{tail_allowed}
 use Rattle.lines.specs.Lines.{ended, packet_line}
 use Rattle.lines.specs.Writing.{fault_refused}
-use Rattle.text.specs.declared.fault.RunFault.{RunFault}
 use Rattle.text.specs.declared.fault.RunFault.TheVariants as run
 use Rattle.text.specs.Faults.{run_number}
-use Rattle.lines.specs.declared.header.Header.{Header}
-use Rattle.runs.specs.declared.standing.Standing.{Standing}
-use Rattle.runs.specs.declared.standing.Standing.TheVariants.{InRun}
 use Rattle.runs.specs.Whole.{fault_text, unless}
 use Rattle.runs.proofs.Positions.{tail_printed}
 use Rattle.sending.specs.Printing.{packet_text, slot_text, after_tail, tail_stop, tail_text, tail_fault}
-use Rattle.sending.specs.declared.run.SendRun.{SendRun}
-use Rattle.sending.specs.Running.{SoundAt, rest_at, fault_at, Ended}
-use Rattle.sending.specs.Tailing.{Wound, TailPrinted}
+use Rattle.sending.specs.Tailing.{Wound}
 use Rattle.sending.proofs.Alike.{Alike, alike_passed, packet_alike}
 use Rattle.sending.proofs.Taking.{packet_printed}
 
@@ -166,16 +160,4 @@ module _ {S : Type 0} (K : Kind S) (F : Form S) (p : Sheet) (m : ℕ) (first : W
       let none : T p - i ≡ 0 = omega arith in (
         sym (append-nil out) ∙ ap (λ k. out ++ tail_text K F p window len rows m i k) (sym none) ∙ d.prints,
         ap (tail_fault K F p window len m i) (sym none) ∙ d.faults,
-      )
-
--- a run whose lines have ended
-module _ {S : Type 0} (K : Kind S) (F : Form S) where
-  pub ended_in : (r : SendRun S) (header : Header) (t : ℕ) (v : WindingSender S) (len : ℕ) (out out' : List ℕ) (fault : Option RunFault) →
-      r.reader.standing ≡ InRun header t → WindCall K r.sender v → len ≡ length (vec_items r.packet) →
-      TailPrinted K F r.sheet t v len out out' fault → Ended K F r out out' fault
-  ended_in r header t v len out out' fault is wind long printed sane =
-      let s = subst (λ (x : Standing). SoundAt x r) is sane in
-      let told = printed (record { sheet = wind.sheet ∙ s.1; rows = wind.rows ∙ s.2; tails = wind.tails }) in (
-        told.0 ∙ ap₂ (λ l k. out ++ tail_text K F r.sheet (room l) k (kept K r.sheet t l) t 0 (T r.sheet)) wind.line long ∙ sym (ap (λ x. out ++ rest_at K F x r []) is),
-        told.1 ∙ ap₂ (λ l k. tail_fault K F r.sheet (room l) k t 0 (T r.sheet)) wind.line long ∙ sym (ap (λ x. fault_at K F x r) is),
       )

@@ -1,5 +1,5 @@
 -- A sending run takes a line. Assumes nothing.
-use Rattle.std.proofs.Common.{◌≡◌, ℕ, ◌+◌, ◌*◌, ◌<◌, ◌≤◌, eqb, List, [], ◌∷◌, ◌++◌, length, get_or, Some, None, Ok, Err, vec_items, Option, Result, sym, refl, ap, ◌∙◌, subst, ap₂, inl, inr, arith}
+use Rattle.std.proofs.Common.{◌≡◌, ℕ, ◌+◌, ◌*◌, ◌<◌, ◌≤◌, eqb, List, [], ◌∷◌, ◌++◌, length, Some, None, Ok, Err, vec_items, Option, Result, sym, refl, ap, ◌∙◌, subst, ap₂, inl, inr, arith}
 use Rattle.std.proofs.lemmas.List.{append_assoc}
 use Rattle.std.proofs.lemmas.Bool.{cases_Bool, cond-true, cond-false, le-ltb}
 use Rattle.kinds.specs.Kind.{Kind}
@@ -19,8 +19,8 @@ use Rattle.code.specs.Packets.{packet}
 use Rattle.code.proofs.Windows.{whole}
 use Rattle.lines.specs.Lines.{ended, packet_line}
 use Rattle.lines.proofs.Written.{right, no_refusal}
-use Rattle.stream.specs.Running.{Taken, Took, Refused}
-use Rattle.opening.proofs.Taking.{Heard, Running, fault_printed, took_in, refused_alike, took_fault, declined, goes_on}
+use Rattle.stream.specs.Running.{Taken, Took}
+use Rattle.opening.proofs.Taking.{Heard, Running, fault_printed, took_in, took_fault, declined, goes_on}
 use Rattle.text.specs.declared.fault.LineFault.{LineFault}
 use Rattle.text.specs.declared.fault.LineFault.TheVariants as fault
 use Rattle.text.specs.declared.fault.RunFault.{RunFault}
@@ -29,7 +29,6 @@ use Rattle.runs.specs.declared.standing.Standing.TheVariants.{InRun}
 use Rattle.runs.specs.declared.standing.SendLine.{SendLine}
 use Rattle.runs.specs.declared.standing.SendLine.TheVariants as send
 use Rattle.runs.specs.Whole.{unless}
-use Rattle.runs.proofs.Early.{too_long}
 use Rattle.runs.proofs.Positions.{row_within}
 use Rattle.runs.specs.Runs.{numbered_as, answer_of, standing_of, Given, send_read, send_place}
 use Rattle.sending.specs.declared.run.SendRun.{SendRun}
@@ -87,12 +86,6 @@ module _ {S : Type 0} (K : Kind S) (F : Form S) where
 
   pub running : Running (λ (r : SendRun S). r.reader.standing) (rest_at K F) SoundAt stopped_at row_of_line row_put row_follows
   running = record { waits = refl; stops = λ f. refl; sound = λ f r. tt; goes = λ header t. refl; unbegun = λ r lines. refl; silent = λ f r lines. refl; prints = λ header t r line lines. refl }
-
-  -- a row's line with more than its symbols
-  pub refused_length : (r : SendRun S) (begun : List ℕ) → get_or begun 0 0 ≡ 82 → 9 + r.sheet.row * F.layout.width < length begun →
-      Refused (rest_of K F) Sound stopped r begun
-  refused_length r begun is l = refused_alike running r begun fault.Length (λ t line more e.
-      ap (fitting (fault.Put put.Place) (lent_to r).row) (too_long F 82 r.sheet.row t line begun more (omega arith) e is l))
 
 module _ {S : Type 0} (K : Kind S) (F : Form S) (before mid after : SendRun S) (line out out' : List ℕ) (answer : Result SendLine RunFault)
     (sheet-is : mid.sheet ≡ before.sheet) (sender-is : mid.sender ≡ before.sender) (packet_is : vec_items mid.packet ≡ vec_items before.packet)
