@@ -6,7 +6,7 @@ mod pieces;
 #[cfg(test)]
 mod receiving;
 #[cfg(test)]
-mod sending;
+mod senders;
 #[cfg(test)]
 mod sheets;
 #[cfg(test)]
