@@ -141,7 +141,19 @@ pub(crate) fn put_field(place: &mut [u8], number: u32)
 fn has_room(width: usize, number: u32) -> bool
     ensures { result ≡ nat_lt number (10 ^ width) }
 {
-    width > 9 || number < 10_u32.pow(width as u32)
+    match width {
+        0 => number < 1,
+        1 => number < 10,
+        2 => number < 100,
+        3 => number < 1_000,
+        4 => number < 10_000,
+        5 => number < 100_000,
+        6 => number < 1_000_000,
+        7 => number < 10_000_000,
+        8 => number < 100_000_000,
+        9 => number < 1_000_000_000,
+        _ => true,
+    }
 }
 
 // Writes the field of the number over the whole place, which is 1 to 8 columns wide.
