@@ -12,7 +12,7 @@ use mending::MendRun;
 use opening::{Opening, Program, feed_whole, text_of};
 use piping::{Piped, pump_to_end};
 use receive::window_len;
-use runs::filled;
+use runs::{MendReader, Standing, filled};
 use std::alloc::{AllocError, Global};
 use std::io::{BufRead, Write};
 use text::RunFault;
@@ -67,6 +67,13 @@ impl Program for Mending {
     ghost echo = { echo };
 
     ghost body = { body };
+
+    fn read_first(line: &[u8]) -> Standing {
+        let mut reader = MendReader::new();
+        // What it answers is told by where it stands then.
+        let _ = reader.read::<Byte>(line, &mut []);
+        reader.standing()
+    }
 
     // Nothing is printed of a header.
     fn print_header(_header: Header, _out: &mut Vec<u8>) -> Result<(), AllocError> {

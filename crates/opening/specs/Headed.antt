@@ -5,7 +5,14 @@ use Rattle.text.specs.declared.fault.LineFault.{LineFault}
 use Rattle.text.specs.declared.fault.RunFault.TheVariants as run
 use Rattle.text.specs.Reading.{header_read}
 use Rattle.stream.specs.Lines.{lines_of}
+use Rattle.runs.specs.declared.standing.Standing.{Standing}
+use Rattle.runs.specs.declared.standing.Standing.TheVariants.{InRun, Stopped}
 use Rattle.runs.specs.Whole.{fault_text}
+
+-- where the first line leads
+abbrev pub after_first : Result Header LineFault → Standing
+after_first (Ok header) = InRun header 0
+after_first (Err e) = Stopped (run.Line 1 e)
 
 -- what is printed of the first line: `echo` of its header, or the X line of its fault
 abbrev pub first_text : (Header → List ℕ) → Result Header LineFault → List ℕ

@@ -10,7 +10,7 @@ use Rattle.runs.specs.declared.standing.Standing.{Standing}
 use Rattle.runs.specs.declared.standing.Standing.TheVariants.{BeforeHeader, InRun, Stopped}
 use Rattle.runs.specs.Whole.{fault_text}
 use Rattle.opening.specs.declared.header.Opening.{Opening}
-use Rattle.opening.specs.Headed.{first_text, lines_text, whole_text}
+use Rattle.opening.specs.Headed.{after_first, first_text, lines_text, whole_text}
 
 -- the header, once it was read
 abbrev pub header_in : Standing → Option Header
@@ -22,11 +22,6 @@ abbrev pub opened_at : Standing → Bool
 opened_at BeforeHeader = false
 opened_at (InRun header next) = true
 opened_at (Stopped f) = true
-
--- where the first line leads
-abbrev pub after_first : Result Header LineFault → Standing
-after_first (Ok header) = InRun header 0
-after_first (Err e) = Stopped (run.Line 1 e)
 
 module _ {G : Type 0} where
   -- the first line was read

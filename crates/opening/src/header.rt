@@ -10,7 +10,6 @@ use runs::{Standing, print_fault};
 use std::alloc::{AllocError, Global};
 use std::marker::PhantomData;
 use stream::LineRun;
-use text::{RunFault, read_header};
 
 // Where a run of the program G stands, from before its header to behind it.
 #[derive_where(Clone, Copy)]
@@ -43,17 +42,13 @@ impl<G: Program> Opening<G> {
     fn take_first(&mut self, line: &[u8], out: &mut Vec<u8>) -> Result<(), AllocError>
         ensures { OnOk result (FirstTaken G.echo self.new line.now out.old.items out.new.items) }
     {
-        match read_header(line) {
-            Ok(header) => {
-                G::print_header(header, out)?;
-                self.standing = Standing::InRun { header, next: 0 };
-            }
-            Err(fault) => {
-                let fault = RunFault::Line { line: 1, fault };
-                print_fault(fault, out)?;
-                self.standing = Standing::Stopped(fault);
-            }
+        let standing = G::read_first(line);
+        match standing {
+            Standing::InRun { header, .. } => G::print_header(header, out)?,
+            Standing::Stopped(fault) => print_fault(fault, out)?,
+            Standing::BeforeHeader => {}
         }
+        self.standing = standing;
         Ok(())
     }
 

@@ -10,7 +10,8 @@ use Rattle.code.specs.declared.sheet.SheetRefusal.{SheetRefusal}
 use Rattle.code.specs.Sheets.{n}
 use Rattle.lines.specs.declared.field.FieldFault.{FieldFault}
 use Rattle.lines.specs.declared.field.FieldFault.TheVariants.{NotANumber, AboveTop}
-use Rattle.lines.specs.Fields.{field_position, read_under, number_in}
+use Rattle.lines.specs.declared.header.SymbolKind.{SymbolKind}
+use Rattle.lines.specs.Fields.{field_position, field_read, read_under, number_in}
 use Rattle.lines.specs.Symbols.{symbol_read, symbol_under}
 use Rattle.lines.specs.Writing.{fault_refused, first_refused}
 use Rattle.text.specs.declared.fault.LineFault.{LineFault}
@@ -18,7 +19,7 @@ use Rattle.text.specs.declared.fault.LineFault.TheVariants as fault
 use Rattle.text.specs.declared.fault.RunFault.{RunFault}
 use Rattle.text.specs.declared.fault.RunFault.TheVariants as run
 use Rattle.text.specs.Faults.{line_number, line_position, run_line, run_number, run_position}
-use Rattle.text.specs.Reading.{and_then, of_field, begins, number_of, symbols_read, symbols_of, row_into, packet_into, missed_read, fitting}
+use Rattle.text.specs.Reading.{and_then, of_field, of_sheet, begins, number_of, kind_of, header_read, symbols_read, symbols_of, row_into, packet_into, missed_read, fitting}
 use Rattle.runs.specs.Whole.{fault_text, unless}
 
 -- a fault of this reading lies at most so far right
@@ -46,6 +47,10 @@ module _ {X : Type 0} where
   field_within : (top : ℕ) (r : Result X FieldFault) → Near top r → Within top (of_field r)
   field_within top (Ok x) p = ok_within top x
   field_within top (Err e) p = err_within top (fault.Field e) (p e refl)
+
+  sheet_within : (top : ℕ) (r : Result X SheetRefusal) → Within top (of_sheet r)
+  sheet_within top (Ok x) = ok_within top x
+  sheet_within top (Err e) = err_within top (fault.Sheet e) (omega arith)
 
   near_ok : (top : ℕ) (x : X) → Near {X = X} top (Ok x)
   near_ok top x e is = let z : ◌≡◌ {A = ℕ} 0 1 = cc in absurd (omega arith)
@@ -113,6 +118,28 @@ missed_within next line =
     (cond_within 9999 (eqb (length line) 9) _ _
     (then_within 9999 (number_of line) _ (field_within 9999 _ (near_more 2 9999 _ (omega arith) (near_number 2 999999 (number_in (take 8 (drop 1 line)))))) (λ number.
     cond_within 9999 (eqb number next) _ _ (ok_within 9999 tt) (err_within 9999 fault.Order (omega arith))))
+    (err_within 9999 fault.Length (omega arith)))
+    (err_within 9999 fault.Letter (omega arith))
+
+kind_within : (c : ℕ) → Within 9999 (kind_of c)
+kind_within c =
+    cond_within 9999 (eqb c 66) _ _ (ok_within 9999 SymbolKind.Bytes)
+    (cond_within 9999 (eqb c 68) _ _ (ok_within 9999 SymbolKind.Digits) (err_within 9999 fault.Kind (omega arith)))
+
+number_within : (at : ℕ) (part : List ℕ) → at ≤ 9999 → Within 9999 (of_field (field_read at 9999 part))
+number_within at part l = field_within 9999 _ (near_more at 9999 _ l (near_number at 9999 (number_in part)))
+
+pub header_within : (line : List ℕ) → Within 9999 (header_read line)
+header_within [] = err_within 9999 fault.Letter (omega arith)
+header_within (c ∷ []) = cond_within 9999 (eqb c 72) _ _ (err_within 9999 fault.Length (omega arith)) (err_within 9999 fault.Letter (omega arith))
+header_within (c ∷ (letter ∷ rest)) =
+    cond_within 9999 (eqb c 72) _ _
+    (cond_within 9999 (eqb (length rest) 12) _ _
+    (then_within 9999 (kind_of letter) _ (kind_within letter) (λ kind.
+    then_within 9999 _ _ (number_within 3 (take 4 rest) (omega arith)) (λ burst.
+    then_within 9999 _ _ (number_within 7 (take 4 (drop 4 rest)) (omega arith)) (λ row.
+    then_within 9999 _ _ (number_within 11 (take 4 (drop 8 rest)) (omega arith)) (λ parity.
+    then_within 9999 _ _ (sheet_within 9999 _) (λ sheet. ok_within 9999 _))))))
     (err_within 9999 fault.Length (omega arith)))
     (err_within 9999 fault.Letter (omega arith))
 

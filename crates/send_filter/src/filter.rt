@@ -10,7 +10,7 @@ use kinds::{Byte, Digit, Printed, Symbol};
 use lines::{Header, SymbolKind, write_header};
 use opening::{Opening, Program, feed_whole, text_of};
 use piping::{Piped, pump_to_end};
-use runs::{filled, print_with};
+use runs::{SendReader, Standing, filled, print_with};
 use sending::SendRun;
 use std::alloc::{AllocError, Global};
 use std::io::{BufRead, Write};
@@ -65,6 +65,13 @@ impl Program for Sending {
     ghost echo = { echo };
 
     ghost body = { body };
+
+    fn read_first(line: &[u8]) -> Standing {
+        let mut reader = SendReader::new();
+        // What it answers is told by where it stands then.
+        let _ = reader.read::<Byte>(line, &mut []);
+        reader.standing()
+    }
 
     // Prints the H line.
     fn print_header(header: Header, out: &mut Vec<u8>) -> Result<(), AllocError> {

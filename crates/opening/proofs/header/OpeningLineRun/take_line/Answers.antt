@@ -7,8 +7,8 @@ use Rattle.text.specs.Reading.{header_read}
 use Rattle.runs.specs.declared.standing.Standing.{Standing}
 use Rattle.runs.specs.declared.standing.Standing.TheVariants.{BeforeHeader, InRun, Stopped}
 use Rattle.runs.specs.Whole.{fault_text}
-use Rattle.opening.specs.Headed.{first_text, headed_text}
-use Rattle.opening.specs.Opening.{after_first, opened_at, opening_at}
+use Rattle.opening.specs.Headed.{after_first, first_text, headed_text}
+use Rattle.opening.specs.Opening.{opened_at, opening_at}
 use Rattle.opening.proofs.header.OpeningLineRun.take_line.Goals as goal
 
 before_header : (s : Standing) → opened_at s ≡ false → s ≡ BeforeHeader
