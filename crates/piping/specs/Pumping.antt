@@ -19,6 +19,24 @@ module _ {R : Type 0} (rest : R → List (List ℕ) → List ℕ) (sound : R →
       sound before → paused before ≡ false → (xs : List ℕ) → left ≡ Some xs →
       FeedingPiece before after held held' printed printed' xs left' more
 
+  -- The run took the lines of what was held and of what the input had left, until it was paused or nothing was left: with what is
+  -- now written, the rest is what it was. Nothing is held or printed any more.
+  pub record PumpingFrom (before after : R) (held held' printed printed' left out : List ℕ) (left' out' : Option (List ℕ)) : Type 0 where
+    pub remains : List ℕ
+    pub leaves : left' ≡ Some remains
+    pub written : List ℕ
+    pub holds : out' ≡ Some written
+    pub stays : sound after
+    pub prints : written ++ rest after (lines_of remains) ≡ out ++ (printed ++ rest before (lines_after held left))
+    pub all : paused after ≡ false → remains ≡ []
+    pub none_held : held' ≡ []
+    pub none_printed : printed' ≡ []
+
+  abbrev pub PumpedFrom : (before after : R) (held held' printed printed' : List ℕ) (left left' out out' : Option (List ℕ)) → Type 0
+  PumpedFrom before after held held' printed printed' left left' out out' =
+      sound before → paused before ≡ false → (xs ys : List ℕ) → left ≡ Some xs → out ≡ Some ys →
+      PumpingFrom before after held held' printed printed' xs ys left' out'
+
   -- The run took the lines of what the input had left, until it was paused or nothing was left: with what is now written, the rest
   -- is what it was.
   pub record Pumping (before after : R) (left out : List ℕ) (left' out' : Option (List ℕ)) : Type 0 where

@@ -2,7 +2,7 @@ ghost use Rattle.std.specs.Prelude.{◌≡◌, ◌<◌, [], Ok, IfOk, IfErr, OnO
 ghost use Rattle.std.specs.Io.Buffered.{reader_buffer, reader_capacity, reader_inner};
 ghost use Rattle.std.specs.Io.KnownBytes.{Appends};
 ghost use Rattle.std.specs.IoError.{error_kind};
-ghost use Rattle.piping.specs.Pumping.{PieceFed, Pumped};
+ghost use Rattle.piping.specs.Pumping.{PieceFed, PumpedFrom, Pumped};
 
 use anyhow::anyhow;
 use std::alloc::{AllocError, Global};
@@ -49,6 +49,32 @@ fn feed_piece<R: LineRun, I: BufRead>(
     Ok(true)
 }
 
+// Writes out what was printed, and feeds the run with the input behind what the feed holds, until it is paused or the input has
+// ended. After a failure the feed and what was printed are still the caller's, who may go on with them.
+pub fn pump_from<R: LineRun, I: BufRead, O: Write>(
+    input: &mut I,
+    feed: &mut LineFeed,
+    run: &mut R,
+    printed: &mut Vec<u8>,
+    output: &mut O,
+) -> anyhow::Result<()>
+    ensures { OnOk result (PumpedFrom R.rest R.sound R.paused run.old run.new feed.old.held.items feed.new.held.items printed.old.items printed.new.items (I.remaining input.old) (I.remaining input.new) (O.contents output.old) (O.contents output.new)) }
+{
+    // A count that no input reaches: a loop with no end would need leave to wait.
+    for _turn in 0..u64::MAX {
+        write_out(output, printed)?;
+        if run.is_paused() {
+            return Ok(());
+        }
+        if !feed_piece(feed, run, input, printed)? {
+            feed.finish(run, printed)?;
+            write_out(output, printed)?;
+            return Ok(());
+        }
+    }
+    Err(anyhow!("the input does not end"))
+}
+
 // Feeds the run with the input, until it is paused or the input has ended.
 pub fn pump<R: LineRun, I: BufRead, O: Write>(
     heap: Global,
@@ -60,19 +86,8 @@ pub fn pump<R: LineRun, I: BufRead, O: Write>(
 {
     let mut feed = LineFeed::new(heap);
     let mut printed = Vec::new(heap);
-    // A count that no input reaches: a loop with no end would need leave to wait.
-    for _turn in 0..u64::MAX {
-        if run.is_paused() {
-            return Ok(());
-        }
-        if !feed_piece(&mut feed, run, input, &mut printed)? {
-            feed.finish(run, &mut printed)?;
-            write_out(output, &mut printed)?;
-            return Ok(());
-        }
-        write_out(output, &mut printed)?;
-    }
-    Err(anyhow!("the input does not end"))
+    pump_from(input, &mut feed, run, &mut printed, output)?;
+    Ok(())
 }
 
 // Feeds the run with the input, and then writes out what its end prints; answers what the end does.

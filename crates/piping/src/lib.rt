@@ -2,9 +2,11 @@
 #![tactic(auto)]
 
 mod flow;
+mod pieces;
 mod piped;
 mod program;
 
-pub use flow::{in_pieces, pump, pump_to_end, write_out};
+pub use flow::{in_pieces, pump, pump_from, pump_to_end, write_out};
+pub use pieces::Piece;
 pub use piped::{Piped, pipe};
 pub use program::run_filter;

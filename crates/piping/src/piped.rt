@@ -60,7 +60,10 @@ pub fn pipe<G: Piped, I: Read + Drop, O: Write>(
 ) -> anyhow::Result<ExitCode>
     ensures { OnOk result (Written (whole_text G.echo G.body) (I.remaining input) (O.contents output.old) (O.contents output.new)) }
 {
-    let mut input = in_pieces(heap, input)?;
+    // Only want of memory makes it fail, which is told as everywhere.
+    let Ok(mut input) = in_pieces(heap, input) else {
+        return Err(AllocError.into());
+    };
     let Some(header) = pump_header::<G, _, _>(heap, &mut input, output)? else {
         return Ok(ExitCode::FAILURE);
     };

@@ -1,23 +1,5 @@
-use Rattle.std.proofs.Common.{◌≡◌, false, sym, ◌∙◌, subst}
-use Rattle.piping.specs.Pumping.{PieceFed}
-use Rattle.piping.proofs.Turns.{turns, stops, ends}
+use Rattle.piping.proofs.Turns.{fresh}
 use Rattle.piping.proofs.flow.pump.Goals as goal
 
-pub returns-then-is_paused : goal.returns-then-is_paused
-returns-then-is_paused g c =
-    stops g.R.LineRun.rest g.R.LineRun.sound g.R.LineRun.paused c.loop-turn.invariant.1 (sym c.is_paused.ensures ∙ c.if-is_paused.true)
-
-pub loop-turn-preserved : goal.loop-turn-preserved
-loop-turn-preserved g c = (
-  c.in_ok-write_out-2.ensures.none,
-  turns g.R.LineRun.rest g.R.LineRun.sound g.R.LineRun.paused _ _ c.loop-turn.invariant.1 (sym c.is_paused.ensures ∙ c.if-is_paused.false)
-      c.loop-turn.invariant.0 c.in_ok-feed_piece.ensures c.in_ok-write_out-2.ensures.wrote,
-)
-
-pub returns-then-not-branch : goal.returns-then-not-branch
-returns-then-not-branch g c =
-    let over : c.in_ok-feed_piece.field-0 ≡ false = c.if-not-branch.true in
-    ends g.R.LineRun.rest g.R.LineRun.sound g.R.LineRun.paused _ c.loop-turn.invariant.1 (sym c.is_paused.ensures ∙ c.if-is_paused.false)
-    c.loop-turn.invariant.0
-    (subst (PieceFed g.R.LineRun.rest g.R.LineRun.sound g.R.LineRun.paused _ _ _ _ _ _ _ _) over c.in_ok-feed_piece.ensures)
-    c.in_ok-finish.ensures c.in_ok-write_out.ensures.wrote
+pub returns : goal.returns
+returns g c = fresh g.R.LineRun.rest g.R.LineRun.sound g.R.LineRun.paused c.new-feed.ensures c.new-printed.ensures.items c.in_ok-pump_from.ensures
