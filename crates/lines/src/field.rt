@@ -141,6 +141,7 @@ pub(crate) fn put_field(place: &mut [u8], number: u32)
 fn has_room(width: usize, number: u32) -> bool
     ensures { result ≡ nat_lt number (10 ^ width) }
 {
+    // By cases: a power of ten takes up to twice as long.
     match width {
         0 => number < 1,
         1 => number < 10,

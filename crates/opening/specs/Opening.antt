@@ -1,7 +1,6 @@
 -- A run up to its header. Assumes nothing.
-use Rattle.std.specs.Prelude.{◌≡◌, ℕ, ◌≤◌, Bool, true, false, List, [], ◌++◌, length, drop, Some, None, Ok, Err, Option, Result}
+use Rattle.std.specs.Prelude.{◌≡◌, ℕ, ◌≤◌, Bool, true, false, List, [], ◌++◌, length, drop, Some, None, Option}
 use Rattle.lines.specs.declared.header.Header.{Header}
-use Rattle.text.specs.declared.fault.LineFault.{LineFault}
 use Rattle.text.specs.declared.fault.LineFault.TheVariants as fault
 use Rattle.text.specs.declared.fault.RunFault.TheVariants as run
 use Rattle.text.specs.Reading.{header_read}

@@ -73,20 +73,6 @@ module _ {R : Type 0} (rest : R → List (List ℕ) → List ℕ) (sound : R →
     pub goes : sound before → paused before ≡ false → (xs ys : List ℕ) → left ≡ Some xs → out ≡ Some ys →
         Going before now first held begun printed xs ys left' out'
 
-  -- before the first turn
-  pub begins : (before : R) (held printed : List ℕ) (left out : Option (List ℕ)) → Goes before before held held printed printed left left out out
-  begins before held printed left out = record {
-    goes = λ s p xs ys l o. record {
-      remains = xs;
-      leaves = l;
-      written = ys;
-      holds = o;
-      stays = s;
-      none_held = λ q. absurd (true_false (sym q ∙ p));
-      prints = refl;
-    };
-  }
-
   -- what was printed is written
   pub writes : {before now : R} {first held begun printed printed' : List ℕ} {left left' out out' : Option (List ℕ)} (out'' : Option (List ℕ)) →
       Goes before now first held begun printed left left' out out' → Appends out' out'' printed → printed' ≡ [] →
@@ -184,4 +170,6 @@ module _ {R : Type 0} (rest : R → List (List ℕ) → List ℕ) (sound : R →
         stays = w.stays;
         prints = w.prints ∙ ap₂ (λ x h. ys ++ (x ++ rest before (lines_after h xs))) none_printed none_held;
         all = w.all;
+        none_held = refl;
+        none_printed = refl;
       }

@@ -37,18 +37,6 @@ module _ {R : Type 0} (rest : R → List (List ℕ) → List ℕ) (sound : R →
       sound before → paused before ≡ false → (xs ys : List ℕ) → left ≡ Some xs → out ≡ Some ys →
       PumpingFrom before after held held' printed printed' xs ys left' out'
 
-  -- The run took the lines of what the input had left, until it was paused or nothing was left: with what is now written, the rest
-  -- is what it was.
-  pub record Pumping (before after : R) (left out : List ℕ) (left' out' : Option (List ℕ)) : Type 0 where
-    pub remains : List ℕ
-    pub leaves : left' ≡ Some remains
-    pub written : List ℕ
-    pub holds : out' ≡ Some written
-    pub stays : sound after
-    pub prints : written ++ rest after (lines_of remains) ≡ out ++ rest before (lines_of left)
-    pub all : paused after ≡ false → remains ≡ []
-
+  -- The same where nothing was held or printed.
   abbrev pub Pumped : (before after : R) (left left' out out' : Option (List ℕ)) → Type 0
-  Pumped before after left left' out out' =
-      sound before → paused before ≡ false → (xs ys : List ℕ) → left ≡ Some xs → out ≡ Some ys →
-      Pumping before after xs ys left' out'
+  Pumped before after left left' out out' = PumpedFrom before after [] [] [] [] left left' out out'

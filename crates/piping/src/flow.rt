@@ -50,7 +50,7 @@ fn feed_piece<R: LineRun, I: BufRead>(
 }
 
 // Writes out what was printed, and feeds the run with the input behind what the feed holds, until it is paused or the input has
-// ended. After a failure the feed and what was printed are still the caller's, who may go on with them.
+// ended. After a failure the feed and what was printed are still the caller's; what they hold then no clause says.
 pub fn pump_from<R: LineRun, I: BufRead, O: Write>(
     input: &mut I,
     feed: &mut LineFeed,

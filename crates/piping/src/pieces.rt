@@ -1,4 +1,5 @@
-// The piece of an input that was read last, and how much of it was taken.
+// The piece of an input that was read last, and how much of it was taken. For who reads by hand: after a failed read nothing waits in it,
+// which the library's reader does not say.
 ghost use Rattle.std.specs.Prelude.{◌<◌, ◌≤◌, vec_len};
 
 pub(crate) mod calls;

@@ -1,7 +1,9 @@
-use Rattle.std.proofs.Common.{◌∙◌}
+use Rattle.std.proofs.Common.{refl, ◌∙◌}
 use Rattle.kinds.specs.Bytes.{byte_form}
-use Rattle.opening.proofs.First.{mend_first}
+use Rattle.runs.specs.declared.standing.MendLine.TheVariants.{Header}
+use Rattle.runs.specs.Runs.{mend_read}
+use Rattle.opening.proofs.First.{first_read}
 use Rattle.mend_filter.proofs.filter.MendingProgram.read_first.Goals as goal
 
 pub returns : goal.returns
-returns c = c.standing.ensures ∙ mend_first byte_form _ c.args.line.now _ _ c.new-reader.ensures c.read.ensures.standing
+returns c = c.standing.ensures ∙ first_read Header (mend_read byte_form) _ refl (λ c cs. refl) c.args.line.now _ _ c.new-reader.ensures c.read.ensures.standing
